@@ -1,0 +1,6 @@
+-- The laws of octets and bits.
+pub mod Digits
+pub mod Lines
+pub mod Packing
+pub mod Gathering
+pub mod Whole

@@ -1,0 +1,32 @@
+-- Octets and the bits of the line.
+use Prim.Native.Nat.{ℕ, zero, suc, _+_, _*_, _/_, _%_, _^_, _≤_, _<_}
+use mathlib.Core.Path.{_≡_, refl, sym, ap, ap₂, _∙_}
+use mathlib.Core.Bool.{Bool, true, false}
+use mathlib.Core.List.{List, [], _∷_, _++_, append-assoc}
+use native.Mathlib.Numerals.{add-one}
+use native.Mathlib.Omega.{arith}
+use lib.ListN.{length, getD, take, drop, length-append}
+use lib.Seq.{drop-cons}
+use Rattle.bits.specs.Octets.{bitsOf, lineBits}
+use Rattle.bits.proofs.Digits.{length-bitsOf}
+
+pub length-lineBits : (xs : List ℕ) → length (lineBits xs) ≡ 8 * length xs
+unfolding lineBits
+length-lineBits [] = refl
+length-lineBits (x ∷ xs) = omega (arith, length-append (bitsOf 8 x) (lineBits xs), length-bitsOf 8 x, length-lineBits xs)
+
+pub line-append : (xs ys : List ℕ) → lineBits (xs ++ ys) ≡ lineBits xs ++ lineBits ys
+unfolding lineBits
+line-append [] ys = refl
+line-append (x ∷ xs) ys =
+    ap (λ (l : List Bool). bitsOf 8 x ++ l) (line-append xs ys) ∙ sym (append-assoc (bitsOf 8 x) (lineBits xs) (lineBits ys))
+
+pub line-cons : (x : ℕ) (xs : List ℕ) → lineBits (x ∷ xs) ≡ bitsOf 8 x ++ lineBits xs
+unfolding lineBits
+line-cons x xs = refl
+
+-- the octet at i comes first in what is left from i on
+pub line-drop : (xs : List ℕ) (i : ℕ) → i < length xs → lineBits (drop i xs) ≡ bitsOf 8 (getD xs i 0) ++ lineBits (drop (i + 1) xs)
+line-drop xs i h =
+    ap lineBits (drop-cons xs i 0 h) ∙ line-cons (getD xs i 0) (drop (suc i) xs)
+    ∙ ap (λ (k : ℕ). bitsOf 8 (getD xs i 0) ++ lineBits (drop k xs)) (sym (add-one i))

@@ -1,0 +1,4 @@
+-- The laws of the check.
+pub mod Xor
+pub mod Linear
+pub mod Residue

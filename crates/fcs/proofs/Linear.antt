@@ -1,0 +1,73 @@
+-- The check is linear: what the register holds and what is fed can be taken apart.
+use mathlib.Core.Path.{_≡_, refl, sym, ap, ap₂, _∙_}
+use mathlib.Core.Bool.{Bool, true, false}
+use mathlib.Core.List.{List, [], _∷_, _++_}
+use Prim.Native.Nat.{ℕ, zero, suc, _+_, _*_, _/_, _%_, _^_, _<_}
+use native.Mathlib.Nat.{div-one}
+use native.Mathlib.Numerals.{one-add}
+use native.Mathlib.Omega.{arith}
+use lib.Dec.{eqb}
+use lib.ListN.{length}
+use lib.Pow.{shr-shr}
+use lib.Bits.{bitXor, differ, xor-lt}
+use Rattle.bits.specs.Octets.{odd, bitsOf}
+use Rattle.fcs.specs.Check.{generator, differs, added, checkBit, checkBits}
+use Rattle.fcs.proofs.Xor.{xor-low, xor-half, xor-assoc}
+
+-- x's bits, lowest first, each turned where bs has a one
+abbrev pub mixed : ℕ → List Bool → List Bool
+mixed x [] = []
+mixed x (b ∷ bs) = differs (odd x) b ∷ mixed (x / 2) bs
+
+digit : (d e : ℕ) → d < 2 → e < 2 → eqb (differ d e) 1 ≡ differs (eqb d 1) (eqb e 1)
+digit zero zero p q = refl
+digit zero (suc zero) p q = refl
+digit (suc zero) zero p q = refl
+digit (suc zero) (suc zero) p q = refl
+digit zero (suc (suc e)) p q = absurd (omega arith)
+digit (suc zero) (suc (suc e)) p q = absurd (omega arith)
+digit (suc (suc d)) e p q = absurd (omega arith)
+
+odd-xor : (a b : ℕ) → odd (bitXor a b) ≡ differs (odd a) (odd b)
+odd-xor a b = ap (λ (d : ℕ). eqb d 1) (xor-low a b) ∙ digit (a % 2) (b % 2) (omega arith) (omega arith)
+
+cancel : (p q b : Bool) → differs (differs p q) (differs p b) ≡ differs q b
+cancel true true true = refl
+cancel true true false = refl
+cancel true false true = refl
+cancel true false false = refl
+cancel false true true = refl
+cancel false true false = refl
+cancel false false true = refl
+cancel false false false = refl
+
+added-xor : (f : Bool) (a b : ℕ) → added f (bitXor a b) ≡ bitXor a (added f b)
+added-xor true a b = xor-assoc a b generator
+added-xor false a b = refl
+
+-- one bit: the part x of the register only moves down, and its lowest bit is taken off the bit that is fed
+bit-linear : (x y : ℕ) (b : Bool) → checkBit (bitXor x y) (differs (odd x) b) ≡ bitXor (x / 2) (checkBit y b)
+bit-linear x y b =
+    ap₂ added (ap (λ (p : Bool). differs p (differs (odd x) b)) (odd-xor x y) ∙ cancel (odd x) (odd y) b) (xor-half x y)
+    ∙ added-xor (differs (odd y) b) (x / 2) (y / 2)
+
+pub bits-linear : (bs : List Bool) (x y : ℕ) → checkBits (bitXor x y) (mixed x bs) ≡ bitXor (x / 2 ^ length bs) (checkBits y bs)
+bits-linear [] x y = ap (λ (n : ℕ). bitXor n y) (sym (div-one x))
+bits-linear (b ∷ bs) x y =
+    ap (λ (r : ℕ). checkBits r (mixed (x / 2) bs)) (bit-linear x y b)
+    ∙ bits-linear bs (x / 2) (checkBit y b)
+    ∙ ap (λ (n : ℕ). bitXor n (checkBits (checkBit y b) bs)) (shr-shr x 1 (length bs) ∙ ap (λ (k : ℕ). x / 2 ^ k) (one-add (length bs)))
+
+pub bits-xor : (k x y : ℕ) → bitsOf k (bitXor x y) ≡ mixed x (bitsOf k y)
+unfolding bitsOf
+bits-xor zero x y = refl
+bits-xor (suc k) x y = ap₂ {C = List Bool} (λ b bs. b ∷ bs) (odd-xor x y) (ap (bitsOf k) (xor-half x y) ∙ bits-xor k (x / 2) (y / 2))
+
+-- the register stays within sixteen bits
+added-lt : (f : Bool) (r : ℕ) → r < 2 ^ 16 → added f r < 2 ^ 16
+added-lt true r h = xor-lt 16 r generator h (omega arith)
+added-lt false r h = h
+
+pub check-lt : (bs : List Bool) (r : ℕ) → r < 2 ^ 16 → checkBits r bs < 2 ^ 16
+check-lt [] r h = h
+check-lt (b ∷ bs) r h = check-lt bs (checkBit r b) (added-lt (differs (odd r) b) (r / 2) (omega arith))

@@ -1,0 +1,2 @@
+-- The frame check sequence.
+pub mod Check
