@@ -6,7 +6,7 @@ use mathlib.Core.List.{List, [], _∷_, _++_, append-assoc}
 use native.Mathlib.Numerals.{add-one}
 use native.Mathlib.Omega.{arith}
 use lib.ListN.{length, getD, take, drop, length-append}
-use lib.Seq.{drop-cons}
+use lib.Seq.{drop-cons, take-nil, take-append-add}
 use Rattle.bits.specs.Octets.{bitsOf, lineBits}
 use Rattle.bits.proofs.Digits.{length-bitsOf}
 
@@ -30,3 +30,12 @@ pub line-drop : (xs : List ℕ) (i : ℕ) → i < length xs → lineBits (drop i
 line-drop xs i h =
     ap lineBits (drop-cons xs i 0 h) ∙ line-cons (getD xs i 0) (drop (suc i) xs)
     ∙ ap (λ (k : ℕ). bitsOf 8 (getD xs i 0) ++ lineBits (drop k xs)) (sym (add-one i))
+
+-- the bits of the first octets are the first bits
+pub line-take : (n : ℕ) (xs : List ℕ) → lineBits (take n xs) ≡ take (n * 8) (lineBits xs)
+unfolding lineBits
+line-take zero xs = refl
+line-take (suc n) [] = sym (take-nil (suc n * 8))
+line-take (suc n) (x ∷ xs) =
+    let e : suc n * 8 ≡ length (bitsOf 8 x) + n * 8 = omega (arith, length-bitsOf 8 x) in
+    ap (λ (l : List Bool). bitsOf 8 x ++ l) (line-take n xs) ∙ sym (ap (λ (j : ℕ). take j (bitsOf 8 x ++ lineBits xs)) e ∙ take-append-add (bitsOf 8 x) (lineBits xs) (n * 8))

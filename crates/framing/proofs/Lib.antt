@@ -1,0 +1,7 @@
+-- The laws of delimitation.
+pub mod Ways
+pub mod Encoding
+pub mod Readings
+pub mod Bound
+pub mod Judged
+pub mod Cases

@@ -1,0 +1,4 @@
+-- Delimitation and the verdict on a unit.
+pub mod Delimitation
+pub mod Verdict
+pub mod Representation
