@@ -7,7 +7,7 @@ use native.Mathlib.Numerals.{add-one}
 use native.Mathlib.Omega.{arith}
 use lib.ListN.{length, getD, take, drop, length-append}
 use lib.Seq.{drop-cons, take-nil, take-append-add}
-use Rattle.bits.specs.Octets.{bitsOf, lineBits}
+use Rattle.bits.specs.Octets.{bitsOf, lineBits, Octets, none, more}
 use Rattle.bits.proofs.Digits.{length-bitsOf}
 
 pub length-lineBits : (xs : List ℕ) → length (lineBits xs) ≡ 8 * length xs
@@ -39,3 +39,7 @@ line-take (suc n) [] = sym (take-nil (suc n * 8))
 line-take (suc n) (x ∷ xs) =
     let e : suc n * 8 ≡ length (bitsOf 8 x) + n * 8 = omega (arith, length-bitsOf 8 x) in
     ap (λ (l : List Bool). bitsOf 8 x ++ l) (line-take n xs) ∙ sym (ap (λ (j : ℕ). take j (bitsOf 8 x ++ lineBits xs)) e ∙ take-append-add (bitsOf 8 x) (lineBits xs) (n * 8))
+
+pub octets-append : (xs ys : List ℕ) → Octets xs → Octets ys → Octets (xs ++ ys)
+octets-append [] ys none q = q
+octets-append (x ∷ xs) ys (more h p) q = more h (octets-append xs ys p q)

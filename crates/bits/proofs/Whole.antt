@@ -4,9 +4,9 @@ use mathlib.Core.Path.{_≡_, refl, sym, ap, ap₂, _∙_}
 use mathlib.Core.Bool.{Bool, true, false}
 use mathlib.Core.List.{List, [], _∷_, _++_}
 use native.Mathlib.Omega.{arith}
-use lib.ListN.{length, take, drop, length-append, length-drop, take-append-drop}
-use lib.Seq.{drop-append-le, length-take-le, drop-drop}
-use Rattle.bits.specs.Octets.{lineBits, packed, wholeOctets, bitsAfter, Octets, none, more}
+use lib.ListN.{length, take, drop, length-append, length-drop, take-append-drop, drop-of-length-le}
+use lib.Seq.{take-all, drop-append-le, length-take-le, drop-drop}
+use Rattle.bits.specs.Octets.{lineBits, octetOf, packed, wholeOctets, bitsAfter, Octets, none, more}
 use Rattle.bits.proofs.Lines.{length-lineBits, line-append}
 use Rattle.bits.proofs.Packing.{length-packed, packed-add, packed-front, line-packed, repack}
 
@@ -17,6 +17,32 @@ length-whole bs = length-packed (length bs / 8) bs
 pub length-after : (bs : List Bool) → length (bitsAfter bs) ≡ length bs % 8
 unfolding bitsAfter
 length-after bs = omega (arith, length-drop (length bs / 8 * 8) bs)
+
+-- fewer than eight bits, and eight
+pub whole-few : (bs : List Bool) → length bs < 8 → wholeOctets bs ≡ []
+unfolding wholeOctets packed
+whole-few bs h =
+    let e : length bs / 8 ≡ 0 = omega arith in
+    ap (λ (k : ℕ). packed k bs) e
+
+pub after-few : (bs : List Bool) → length bs < 8 → bitsAfter bs ≡ bs
+unfolding bitsAfter
+after-few bs h =
+    let e : length bs / 8 * 8 ≡ 0 = omega arith in
+    ap (λ (k : ℕ). drop k bs) e
+
+pub whole-eight : (bs : List Bool) → length bs ≡ 8 → wholeOctets bs ≡ octetOf bs ∷ []
+unfolding wholeOctets packed
+whole-eight bs h =
+    let e : length bs / 8 ≡ 1 = omega arith in
+    ap (λ (k : ℕ). packed k bs) e ∙ ap {B = List ℕ} (λ (x : List Bool). octetOf x ∷ []) (take-all 8 bs (omega arith))
+
+pub after-eight : (bs : List Bool) → length bs ≡ 8 → bitsAfter bs ≡ []
+unfolding bitsAfter
+after-eight bs h =
+    let e : length bs / 8 * 8 ≡ 8 = omega arith in
+    let l : length bs ≤ 8 = omega arith in
+    ap (λ (k : ℕ). drop k bs) e ∙ drop-of-length-le bs l
 
 -- ---- what comes in two parts
 module _ (xs ys : List Bool) where

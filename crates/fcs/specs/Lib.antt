@@ -1,2 +1,3 @@
 -- The frame check sequence.
 pub mod Check
+pub mod Promises

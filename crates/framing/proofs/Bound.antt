@@ -10,6 +10,7 @@ use borrow.Author.Tests.{lt-ltb, le-ltb, eqb-true, eqb-false, ltb-true, ltb-fals
 use Rattle.bits.specs.Octets.{bitsOf}
 use Rattle.bits.proofs.Digits.{snoc-length, length-bitsOf}
 use Rattle.framing.specs.Delimitation.{Receiver, Finding, closed, abort, long, hunts, inside, flagged, unit, gather, flag, stepBit, next, finds, findings}
+use Rattle.framing.specs.Promises.{TwoFindings}
 
 -- the ones that a flag or an abort would use
 abbrev spent : ℕ → ℕ
@@ -112,6 +113,5 @@ two M (b ∷ bs) s m h = pick (length (finds M s b)) refl (two M bs (next M s b)
         let z : length (next M s b .gathered) ≡ 0 = k .empties (omega arith) in
         omega (arith, e, k .single, spent-le (next M s b .run), paid M bs (next M s b) (omega arith))
 
--- THE PROMISE: with M at least 7 one line octet brings at most two findings, from any state of the receiver
-pub two-findings : (M : ℕ) (s : Receiver) (octet : ℕ) → 7 ≤ M → length (findings M s (bitsOf 8 octet)) ≤ 2
+pub two-findings : TwoFindings
 two-findings M s octet m = two M (bitsOf 8 octet) s m (omega (arith, length-bitsOf 8 octet))

@@ -12,9 +12,10 @@ use Rattle.framing.specs.declared.Found.the-variants.{Nothing, Closed, A
 use Rattle.framing.specs.declared.Step.{Step}
 use Rattle.framing.specs.Delimitation.{Receiver, Finding, closed, abort, long, stepBit, next, finds, after, findings, Reading, readOn, reading}
 use Rattle.framing.specs.Representation.{decode, Holds, wellFormed, shows, isFound, standing, Stepped, FedTo}
+use Rattle.framing.specs.Promises.{ReadingAfter, ReadingFindings}
 
 -- ---- what a reading leaves is to be read on
-pub reading-after : (M : ℕ) (bs : List Bool) (s : Receiver) → after M (reading M s bs .state) (reading M s bs .rest) ≡ after M s bs
+pub reading-after : ReadingAfter
 unfolding reading
 reading-after M [] s = refl
 reading-after M (b ∷ bs) s = go (finds M s b) (reading-after M bs (next M s b))
@@ -24,8 +25,7 @@ reading-after M (b ∷ bs) s = go (finds M s b) (reading-after M bs (next M s b)
     go [] ih = ih
     go (f ∷ fs) ih = refl
 
-pub reading-findings : (M : ℕ) (bs : List Bool) (s : Receiver)
-    → reading M s bs .found ++ findings M (reading M s bs .state) (reading M s bs .rest) ≡ findings M s bs
+pub reading-findings : ReadingFindings
 unfolding reading
 reading-findings M [] s = refl
 reading-findings M (b ∷ bs) s = go (finds M s b) (reading-findings M bs (next M s b))

@@ -2,3 +2,4 @@
 pub mod Delimitation
 pub mod Verdict
 pub mod Representation
+pub mod Promises

@@ -1,0 +1,4 @@
+-- Sending: stuffing, flags, and packing into whole octets.
+pub mod Stuffing
+pub mod Packing
+pub mod Promises

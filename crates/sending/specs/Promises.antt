@@ -1,0 +1,54 @@
+-- What is promised of sending. The proofs are in proofs/Puttings.antt, proofs/Stuffs.antt, proofs/ReadBack.antt and proofs/Sent.antt.
+use mathlib.Core.Path.{_≡_}
+use mathlib.Core.Bool.{Bool}
+use mathlib.Core.List.{List, [], _∷_, _++_}
+use Prim.Native.Nat.{ℕ, _+_, _*_, _/_, _≤_, _<_}
+use lib.ListN.{length}
+use Rattle.bits.specs.Octets.{lineBits, wholeOctets, Octets}
+use Rattle.bits.specs.Format.{basic}
+use Rattle.fcs.specs.Check.{checkOctets}
+use Rattle.framing.specs.declared.Verdict.the-variants.{Good}
+use Rattle.framing.specs.Delimitation.{Receiver, closed, flagged, after, findings}
+use Rattle.framing.specs.Verdict.{verdictOf}
+use Rattle.sending.specs.declared.Tx.{Tx}
+use Rattle.sending.specs.Stuffing.{zerosIn, onLine, unitBits, unitLine}
+use Rattle.sending.specs.Packing.{waiting, octetsOut, stillWaiting}
+
+-- What goes out and what waits then are together the bits that waited, followed by the new ones; at most seven bits wait.
+abbrev pub NothingLost : Type 0
+NothingLost =
+    (t : Tx) (bs : List Bool)
+    → (lineBits (octetsOut t bs) ++ stillWaiting t bs ≡ waiting t ++ bs) × (length (stillWaiting t bs) ≤ 7)
+
+-- The zeros put in are at most a fifth of the unit's bits.
+abbrev pub ZerosFifth : Type 0
+ZerosFifth = (bits : List Bool) → length (zerosIn 0 bits) ≤ length bits / 5
+
+-- At most 335 octets come out of one unit of up to 276 octets of content, behind up to seven waiting bits or behind a first flag.
+abbrev pub FewOctets : Type 0
+FewOctets =
+    (before : List Bool) (content : List ℕ) → length before ≤ 8 → length content ≤ 276
+    → length (wholeOctets (before ++ unitLine content)) ≤ 335
+
+-- A receiver that has just read a flag, fed the stuffed bits of any unit of at least one bit that it allows and then a flag, finds
+-- exactly that unit and has again just read a flag.
+abbrev pub ReadBack : Type 0
+ReadBack =
+    (M : ℕ) (u : List Bool) → 0 < length u → length u ≤ 8 * M
+    → (after M flagged (onLine u) ≡ flagged) × (findings M flagged (onLine u) ≡ closed u ∷ [])
+
+-- The same of content and its check octets through the sender, whatever waits before them: a receiver that has just read a flag once
+-- it has read what waits, and then reads the octets that go out and the bits that wait, finds exactly this unit more.
+abbrev pub ReadBackSent : Type 0
+ReadBackSent =
+    (M : ℕ) (t : Tx) (content : List ℕ) (s : Receiver) → length content + 2 ≤ M → after M s (waiting t) ≡ flagged
+    → (after M s (lineBits (octetsOut t (unitLine content)) ++ stillWaiting t (unitLine content)) ≡ flagged)
+    × (findings M s (lineBits (octetsOut t (unitLine content)) ++ stillWaiting t (unitLine content))
+    ≡ findings M s (waiting t) ++ (closed (unitBits content) ∷ []))
+
+-- That unit is good, from three octets of content on, and its octets are the content and the check octets.
+abbrev pub SentGood : Type 0
+SentGood = (content : List ℕ) → 3 ≤ length content → verdictOf basic (unitBits content) ≡ Good
+
+abbrev pub SentOctets : Type 0
+SentOctets = (content : List ℕ) → Octets content → wholeOctets (unitBits content) ≡ content ++ checkOctets content
