@@ -62,7 +62,7 @@ one-in (suc n) g h =
     ]
 
 -- a zero changes nothing
-zero-in : (n : ℕ) (g : List Bool) → packed n (g ++ (false ∷ [])) ≡ packed n g
+pub zero-in : (n : ℕ) (g : List Bool) → packed n (g ++ (false ∷ [])) ≡ packed n g
 unfolding packed
 zero-in zero g = refl
 zero-in (suc n) g =

@@ -1,0 +1,78 @@
+-- The filter by its memory.
+use Prim.Native.Nat.{ℕ}
+use mathlib.Core.Bool.{Bool, true, false, _&&_}
+use mathlib.Core.List.{List, [], _∷_}
+use lib.Dec.{eqb}
+use lib.ListN.{length}
+use Rattle.bits.specs.Machine.{run, outs}
+use Rattle.filter.specs.declared.Kind.{Kind}
+use Rattle.filter.specs.declared.Kind.the-variants.{FillIn, LinkStatus, Message}
+use Rattle.filter.specs.declared.Fate.{Fate}
+use Rattle.filter.specs.declared.Fate.the-variants.{HandedOver, Dropped, Lost}
+use Rattle.filter.specs.declared.Memory.{Memory}
+use Rattle.filter.specs.declared.Settled.{Settled}
+use Rattle.filter.specs.Unit.{kindOf, masked, same}
+
+-- "opening empt[ies] the memory"
+abbrev pub emptyMemory : Memory
+emptyMemory = record { length = 0; octets = 0 ∷ 0 ∷ 0 ∷ 0 ∷ 0 ∷ []; alike = false }
+
+-- the memory holds a unit like this one
+abbrev pub holdsLike : List ℕ → Memory → List ℕ → Bool
+holdsLike mask m u = eqb (m .length) (length u) && same (m .octets) (masked mask u)
+
+-- "a fill-in unit is dropped exactly if the memory holds one like it; a link status unit needs two in a row"
+abbrev pub repeats : Kind → Bool → Bool → Bool
+repeats FillIn like before = like
+repeats LinkStatus like before = like && before
+repeats Message like before = false
+
+-- "With the filter on"
+abbrev pub drops : Bool → List ℕ → Memory → List ℕ → Bool
+drops on mask m u = on && repeats (kindOf u) (holdsLike mask m u) (m .alike)
+
+abbrev pub forgets : Kind → Memory → Memory
+forgets FillIn m = m
+forgets LinkStatus m = m
+forgets Message m = emptyMemory
+
+abbrev pub pickMemory : Bool → Memory → Memory → Memory
+pickMemory true a b = a
+pickMemory false a b = b
+
+-- "Otherwise it goes to a slot, and the memory holds its length, its masked octets and whether the unit before was alike.
+-- With the filter off the memory stays empty. A message unit [empties] the memory."
+abbrev pub remembers : Bool → List ℕ → Memory → List ℕ → Memory
+remembers on mask m u =
+    pickMemory on (forgets (kindOf u) (record { length = length u; octets = masked mask u; alike = holdsLike mask m u })) emptyMemory
+
+abbrev pub pick : Bool → Settled → Settled → Settled
+pick true a b = a
+pick false a b = b
+
+-- What becomes of a good unit whose next slot is free or not: dropped, and the memory is left as it is; or handed over and
+-- remembered; or lost, and "a lost good unit [empties] the memory".
+unfoldable pub settled : Bool → List ℕ → Memory → List ℕ → Bool → Settled
+settled on mask m u free =
+    pick (drops on mask m u) (record { fate = Dropped; memory = m })
+    (pick free (record { fate = HandedOver; memory = remembers on mask m u }) (record { fate = Lost; memory = emptyMemory }))
+
+-- What the filter meets from opening on: a good unit with whether its slot was free, and command 4. Units with errors are set aside.
+pub data Meeting : Type 0 where
+  good : List ℕ → Bool → Meeting
+  command-4 : Meeting
+
+abbrev pub after : Bool → List ℕ → Memory → Meeting → Memory
+after on mask m (good u free) = settled on mask m u free .memory
+after on mask m command-4 = emptyMemory
+
+abbrev pub fateOf : Bool → List ℕ → Memory → Meeting → List Fate
+fateOf on mask m (good u free) = settled on mask m u free .fate ∷ []
+fateOf on mask m command-4 = []
+
+-- the memory after a history, oldest first, and the fates of its good units
+unfoldable pub memoryAfter : Bool → List ℕ → List Meeting → Memory
+memoryAfter on mask = run (after on mask) emptyMemory
+
+unfoldable pub fates : Bool → List ℕ → List Meeting → List Fate
+fates on mask = outs (after on mask) (fateOf on mask) emptyMemory

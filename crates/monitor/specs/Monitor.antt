@@ -1,0 +1,69 @@
+-- The error monitors, as document 01's paragraph "Monitor" has them.
+use Prim.Native.Nat.{ℕ, _+_, _-_}
+use mathlib.Core.Path.{_≡_}
+use mathlib.Core.Logic.{_⊎_}
+use mathlib.Core.Bool.{Bool, true, false}
+use mathlib.Core.List.{List, [], _∷_}
+use lib.Dec.{eqb, leb}
+use Rattle.bits.specs.Octets.{worth}
+use Rattle.bits.specs.Machine.{run, outs}
+use Rattle.monitor.specs.declared.Mode.{Mode}
+use Rattle.monitor.specs.declared.Mode.the-variants.{Off, Failure, Alignment, Idle}
+use Rattle.monitor.specs.declared.Alarm.{Alarm}
+use Rattle.monitor.specs.declared.Alarm.the-variants.{Nothing, Suer, Aerm}
+use Rattle.monitor.specs.declared.Monitor.{Monitor}
+use Rattle.monitor.specs.declared.Limits.{Limits}
+use Rattle.monitor.specs.declared.Stepped.{Stepped}
+
+abbrev pub monitorOf : Mode → ℕ → ℕ → Monitor
+monitorOf mode count number = record { mode = mode; count = count; number = number }
+
+-- "Starting sets both counts to zero."
+abbrev pub started : Mode → Monitor
+started mode = monitorOf mode 0 0
+
+-- command 1: "monitor off (its counts stay)"
+abbrev pub stopped : Monitor → Monitor
+stopped m = monitorOf Off (m .count) (m .number)
+
+abbrev pub gives : Monitor → Alarm → Stepped
+gives m a = record { monitor = m; alarm = a }
+
+abbrev pub pick : Bool → Stepped → Stepped → Stepped
+pick true a b = a
+pick false a b = b
+
+-- "In failure mode each event, good or errored or octet tick: errored adds 1" (c is the count with that added);
+-- "count T raises SUER and the monitor goes idle with both counts kept; otherwise the event number rises, and at every
+-- D-th event, a decay point, it returns to 0 and the count is lowered, not below 0."
+abbrev pub failing : ℕ → ℕ → ℕ → ℕ → Stepped
+failing T D c n =
+    pick (leb T c) (gives (monitorOf Idle c n) Suer)
+    (pick (eqb (n + 1) D) (gives (monitorOf Failure (c - 1) 0) Nothing) (gives (monitorOf Failure c (n + 1)) Nothing))
+
+-- "In alignment mode the event number stays 0, there is no lowering and threshold A raises AERM and idles likewise."
+abbrev pub aligning : ℕ → ℕ → ℕ → Stepped
+aligning A c n = pick (leb A c) (gives (monitorOf Idle c n) Aerm) (gives (monitorOf Alignment c n) Nothing)
+
+-- a monitor that counts nothing: "Idle and off count nothing."
+abbrev pub OffOrIdle : Monitor → Type 0
+OffOrIdle m = (m .mode ≡ Off) ⊎ (m .mode ≡ Idle)
+
+abbrev pub byMode : Mode → Stepped → Stepped → Stepped → Stepped
+byMode Failure f a q = f
+byMode Alignment f a q = a
+byMode Idle f a q = q
+byMode Off f a q = q
+
+-- one event, errored or not
+unfoldable pub step : Limits → Monitor → Bool → Stepped
+step l m e =
+    let c = m .count + worth e in
+    byMode (m .mode) (failing (l .t) (l .d) c (m .number)) (aligning (l .a) c (m .number)) (gives m Nothing)
+
+-- the monitor after events, oldest first, and the alarm at each of them
+unfoldable pub after : Limits → Monitor → List Bool → Monitor
+after l = run (λ m e. step l m e .monitor)
+
+unfoldable pub alarms : Limits → Monitor → List Bool → List Alarm
+alarms l = outs (λ m e. step l m e .monitor) (λ m e. step l m e .alarm ∷ [])
