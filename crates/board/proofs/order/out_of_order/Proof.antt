@@ -1,0 +1,43 @@
+-- `board::order::out_of_order` meets its contract: each part's test is the definition's.
+use borrow.Author.Needs.{needs}
+use Rattle.board.specs.Order.{outOfOrder}
+use Rattle.board.proofs.order.out_of_order.Statement.{statement}
+use Rattle.board.proofs.order.out_of_order.Tie as tie
+
+slice-aggregate-zero-past : tie.Need-slice-aggregate-zero-past
+slice-aggregate-zero-past c = search needs
+
+zero-past-requires : tie.Need-zero-past-requires
+zero-past-requires c κs = search needs
+
+in-range-requires : tie.Need-in-range-requires
+in-range-requires c κs = search needs
+
+line-out-requires : tie.Need-line-out-requires
+line-out-requires c κs = search needs
+
+counter-out-requires : tie.Need-counter-out-requires
+counter-out-requires c κs = search needs
+
+monitor-out-requires : tie.Need-monitor-out-requires
+monitor-out-requires c κs = search needs
+
+transmitter-out-requires : tie.Need-transmitter-out-requires
+transmitter-out-requires c κs = search needs
+
+returns : tie.Need-returns
+unfolding outOfOrder
+returns c = cc
+
+pub out-of-order-spec : {M : Type 1} → statement M
+out-of-order-spec =
+    tie.close
+    (tie.spec
+    slice-aggregate-zero-past
+    zero-past-requires
+    in-range-requires
+    line-out-requires
+    counter-out-requires
+    monitor-out-requires
+    transmitter-out-requires
+    returns)

@@ -1,0 +1,22 @@
+-- `board::order::transmitter_out` meets its contract.
+use borrow.Author.Needs.{needs}
+use Rattle.board.specs.Order.{transmitterOut}
+use Rattle.board.proofs.order.transmitter_out.Statement.{statement}
+use Rattle.board.proofs.order.transmitter_out.Tie as tie
+
+slice-aggregate-zero-past : tie.Need-slice-aggregate-zero-past
+slice-aggregate-zero-past c = search needs
+
+cast-zero-past : tie.Need-cast-zero-past
+cast-zero-past c = search needs
+
+zero-past-requires : tie.Need-zero-past-requires
+zero-past-requires c κs = search needs
+
+returns : tie.Need-returns
+unfolding transmitterOut
+returns c = cc
+
+pub transmitter-out-spec : {M : Type 1} → statement M
+transmitter-out-spec =
+    tie.close (tie.spec slice-aggregate-zero-past cast-zero-past zero-past-requires returns)

@@ -1,0 +1,153 @@
+-- How a call's answer is met: refused, and done; and what no fault says.
+use Prim.Native.Nat.{ℕ, zero, suc, _+_, _-_, _*_, _≤_, _<_}
+use mathlib.Core.Path.{_≡_, refl, sym, ap, ap₂, _∙_}
+use mathlib.Core.Bool.{Bool, true, false, not, _&&_, _||_}
+use mathlib.Core.List.{List, [], _∷_}
+use native.Mathlib.Omega.{arith}
+use lib.Dec.{eqb, leb, ltb}
+use lib.ListN.{length, take, drop}
+use lib.Seq.{take-take}
+use borrow.Author.Tests.{eq-eqb, ne-eqb, eqb-true, leb-false, ltb-false, not-false}
+use Rattle.memory.specs.Lent.{zeros, emptyDescriptors, statusOf, lengthOf, slotOf, withSlot, withDescriptor, emptySlot}
+use Rattle.board.specs.declared.Settings.{Settings}
+use Rattle.board.specs.declared.Link.{Link}
+use Rattle.board.specs.Order.{inRange, malformed}
+use Rattle.board.proofs.Orders.{both, neither}
+use Rattle.link.specs.declared.Answer.{Answer}
+use Rattle.link.specs.Refusals.{pick, Fault, fault, first, fitsMemory, openFaults, openNumber, commandNumber, readFaults, readNumber}
+use Rattle.link.specs.Calls.{Outcome, outcome, openedLink, openAnswer, obeyed, commandAnswer, readPart, handAnswer}
+
+pick-true : {A : Type 0} {b : Bool} (x y : A) → b ≡ true → pick b x y ≡ x
+pick-true x y e = rw e
+
+pick-false : {A : Type 0} {b : Bool} (x y : A) → b ≡ false → pick b x y ≡ y
+pick-false x y e = rw e
+
+-- an answer by its number
+pub done : {A : Type 0} (n : ℕ) (yes-done no-done : A) → n ≡ 0 → pick (eqb n 0) yes-done no-done ≡ yes-done
+done n a b z = pick-true a b (eq-eqb n 0 z)
+
+pub refused : {A : Type 0} (n : ℕ) (yes-done no-done : A) → (n ≡ 0 → ⊥) → pick (eqb n 0) yes-done no-done ≡ no-done
+refused n a b z = pick-false a b (ne-eqb n 0 z)
+
+-- where no fault is found, neither the first is, nor one of the rest
+none : (b : Bool) (n : ℕ) (fs : List Fault) → (n ≡ 0 → ⊥) → first (fault b n ∷ fs) ≡ 0 → (b ≡ false) × (first fs ≡ 0)
+unfolding first
+none true n fs z e = absurd (z e)
+none false n fs z e = (refl, e)
+
+-- ---- open
+pub record Openable (l : Link) (s : Settings) (pool descriptors : List ℕ) : Type 0 where
+  pub good : malformed l ≡ false
+  pub closed : l .opened ≡ false
+  pub range : inRange s ≡ true
+  pub octets : length pool ≡ 280 * s .k
+  pub words : length descriptors ≡ 2 * s .k
+  pub clean-pool : zeros pool ≡ true
+  pub clean-words : zeros descriptors ≡ true
+
+module _ (l : Link) (s : Settings) (pool descriptors : List ℕ) where
+  pub openable : openNumber l s pool descriptors ≡ 0 → Openable l s pool descriptors
+  unfolding openNumber fitsMemory
+  openable e =
+      let n1 = none _ _ _ (λ z. omega arith) e in
+      let n3 = none _ _ _ (λ z. omega arith) (n1 .1) in
+      let n4 = none _ _ _ (λ z. omega arith) (n3 .1) in
+      let n5 = none _ _ _ (λ z. omega arith) (n4 .1) in
+      let n6 = none _ _ _ (λ z. omega arith) (n5 .1) in
+      let fits = both _ _ (not-false _ (n5 .0)) in
+      let clean = both _ _ (not-false _ (n6 .0)) in
+      record {
+        good = n1 .0;
+        closed = n3 .0;
+        range = not-false _ (n4 .0);
+        octets = eqb-true _ _ (fits .0);
+        words = eqb-true _ _ (fits .1);
+        clean-pool = clean .0;
+        clean-words = clean .1;
+      }
+
+  module _ (n : ℕ) (e : n ≡ openNumber l s pool descriptors) where
+    pub open-refused : (n ≡ 0 → ⊥) → outcome n l pool descriptors ≡ openAnswer l s pool descriptors
+    unfolding openAnswer
+    open-refused z = ap (λ (k : ℕ). outcome k l pool descriptors) e ∙ sym (refused _ _ _ (λ q. z (e ∙ q)))
+
+    pub open-done : (r : Link) (d : List ℕ) → n ≡ 0 → r ≡ openedLink s → d ≡ emptyDescriptors (s .k) → outcome 0 r pool d ≡ openAnswer l s pool descriptors
+    unfolding openAnswer
+    open-done r d z er ed = ap₂ (λ (x : Link) (y : List ℕ). outcome 0 x pool y) er ed ∙ sym (done _ _ _ (sym e ∙ z))
+
+-- ---- command
+module _ (l : Link) (command n : ℕ) (e : n ≡ commandNumber l command) where
+  pub command-refused : (n ≡ 0 → ⊥) → record { number = n; link = l } ≡ commandAnswer l command
+  unfolding commandAnswer
+  command-refused z = ap {B = Answer} (λ (k : ℕ). record { number = k; link = l }) e ∙ sym (refused _ _ _ (λ q. z (e ∙ q)))
+
+  pub command-done : (r : Link) → n ≡ 0 → r ≡ obeyed command l → record { number = 0; link = r } ≡ commandAnswer l command
+  unfolding commandAnswer
+  command-done r z er = ap {B = Answer} (λ (x : Link). record { number = 0; link = x }) er ∙ sym (done _ _ _ (sym e ∙ z))
+
+-- a number that is no command's changes nothing
+pub no-command : (c : ℕ) (l : Link) → (c ≡ 1 → ⊥) → (c ≡ 2 → ⊥) → (c ≡ 3 → ⊥) → (c ≡ 4 → ⊥) → (c ≡ 5 → ⊥) → l ≡ obeyed c l
+unfolding obeyed
+no-command zero l a b c d e = refl
+no-command (suc zero) l a b c d e = absurd (a refl)
+no-command (suc (suc zero)) l a b c d e = absurd (b refl)
+no-command (suc (suc (suc zero))) l a b c d e = absurd (c refl)
+no-command (suc (suc (suc (suc zero)))) l a b c d e = absurd (d refl)
+no-command (suc (suc (suc (suc (suc zero))))) l a b c d e = absurd (e refl)
+no-command (suc (suc (suc (suc (suc (suc n)))))) l a b c d e = refl
+
+-- ---- read and hand back
+pub record Readable (l : Link) (pool descriptors : List ℕ) (slot : ℕ) : Type 0 where
+  pub good : malformed l ≡ false
+  pub opened : l .opened ≡ true
+  pub fits : fitsMemory (l .settings .k) pool descriptors ≡ true
+  pub octets : length pool ≡ 280 * l .settings .k
+  pub words : length descriptors ≡ 2 * l .settings .k
+  pub below : slot < l .settings .k
+  pub short : lengthOf descriptors slot ≤ 278
+
+module _ (l : Link) (pool descriptors : List ℕ) (slot : ℕ) where
+  pub readable : readNumber l pool descriptors slot ≡ 0 → Readable l pool descriptors slot
+  unfolding readNumber fitsMemory
+  readable e =
+      let n1 = none _ _ _ (λ z. omega arith) e in
+      let n2 = none _ _ _ (λ z. omega arith) (n1 .1) in
+      let n5 = none _ _ _ (λ z. omega arith) (n2 .1) in
+      let n12 = none _ _ _ (λ z. omega arith) (n5 .1) in
+      let n13 = none _ _ _ (λ z. omega arith) (n12 .1) in
+      let fits = both _ _ (not-false _ (n5 .0)) in
+      record {
+        good = n1 .0;
+        opened = not-false _ (n2 .0);
+        fits = not-false _ (n5 .0);
+        octets = eqb-true _ _ (fits .0);
+        words = eqb-true _ _ (fits .1);
+        below = leb-false _ _ (n12 .0);
+        short = ltb-false 278 (lengthOf descriptors slot) (neither (ltb 2 (statusOf descriptors slot)) (ltb 278 (lengthOf descriptors slot)) (n13 .0) .1);
+      }
+
+  module _ (n : ℕ) (e : n ≡ readNumber l pool descriptors slot) where
+    pub read-refused : (n ≡ 0 → ⊥) → [] ≡ readPart l pool descriptors slot
+    unfolding readPart
+    read-refused z = sym (refused _ _ _ (λ q. z (e ∙ q)))
+
+    pub read-done : (from count : ℕ) → n ≡ 0 → from ≡ 280 * slot → count ≡ lengthOf descriptors slot
+        → take (from + count - from) (drop from pool) ≡ readPart l pool descriptors slot
+    unfolding readPart
+    read-done from count z ef ec =
+        let ok = readable (sym e ∙ z) in
+        let k : from + count - from ≡ count = omega arith in
+        ap (λ (x : ℕ). take x (drop from pool)) k
+        ∙ ap₂ (λ (x y : ℕ). take x (drop y pool)) ec ef
+        ∙ sym (take-take (lengthOf descriptors slot) 280 (drop (280 * slot) pool) (omega (arith, ok .short)))
+        ∙ sym (done _ _ _ (sym e ∙ z))
+
+    pub hand-refused : (n ≡ 0 → ⊥) → outcome n l pool descriptors ≡ handAnswer l pool descriptors slot
+    unfolding handAnswer
+    hand-refused z = ap (λ (k : ℕ). outcome k l pool descriptors) e ∙ sym (refused _ _ _ (λ q. z (e ∙ q)))
+
+    pub hand-done : (p d : List ℕ) → n ≡ 0 → p ≡ withSlot pool slot emptySlot → d ≡ withDescriptor descriptors slot 32768 0
+        → outcome 0 l p d ≡ handAnswer l pool descriptors slot
+    unfolding handAnswer
+    hand-done p d z ep ed = ap₂ (λ (x y : List ℕ). outcome 0 l x y) ep ed ∙ sym (done _ _ _ (sym e ∙ z))

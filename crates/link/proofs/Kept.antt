@@ -1,0 +1,93 @@
+-- What the calls keep: refusals, the wipe, opening, handing back.
+use Prim.Native.Nat.{ℕ, _+_, _*_, _≤_, _<_}
+use mathlib.Core.Path.{_≡_, refl, sym, ap, subst, _∙_}
+use mathlib.Core.Bool.{Bool, true, false, not, _&&_, _||_}
+use mathlib.Core.List.{List, [], _∷_}
+use native.Mathlib.Omega.{arith}
+use lib.Dec.{eqb, leb, ltb}
+use lib.ListN.{length, replicate, length-replicate}
+use borrow.Author.Tests.{eq-eqb, lt-ltb, lt-leb, eqb-true, eqb-false}
+use Rattle.memory.specs.Lent.{zeros, statusOf, lengthOf, withSlot, withDescriptor, emptySlot}
+use Rattle.memory.proofs.Slots.{wiped-zeros, pool-length, descriptor-written, descriptors-length}
+use Rattle.board.specs.declared.Settings.{Settings}
+use Rattle.board.specs.declared.Link.{Link}
+use Rattle.board.specs.Order.{malformed}
+use Rattle.link.specs.Refusals.{pick, fault, first, fitsMemory, openNumber, commandNumber, readNumber}
+use Rattle.link.specs.Calls.{Outcome, outcome, openAnswer, wipeAnswer, commandAnswer, readPart, handAnswer}
+use Rattle.link.specs.Promises.{RefusedOpen, RefusedCommand, RefusedRead, RefusedHandBack, WipeLeavesNothing, OpensOnWiped, HandedBackIsEmpty}
+use Rattle.link.proofs.Answers.{done, refused, Openable, openable, Readable, readable}
+
+pub refused-open : RefusedOpen
+unfolding openAnswer
+refused-open l s pool descriptors z = refused _ _ _ z
+
+pub refused-command : RefusedCommand
+unfolding commandAnswer
+refused-command l command z = refused _ _ _ z
+
+pub refused-read : RefusedRead
+unfolding readPart
+refused-read l pool descriptors slot z = refused _ _ _ z
+
+pub refused-hand-back : RefusedHandBack
+unfolding handAnswer
+refused-hand-back l pool descriptors slot z = refused _ _ _ z
+
+pub wipe-leaves-nothing : WipeLeavesNothing
+wipe-leaves-nothing octets words = (refl, wiped-zeros octets, wiped-zeros words)
+
+-- an answer of 0 is that of a call with no fault
+pub open-number : (l : Link) (s : Settings) (pool descriptors : List ℕ) → openAnswer l s pool descriptors .number ≡ openNumber l s pool descriptors
+unfolding openAnswer
+open-number l s pool descriptors = go (eqb n 0) refl
+  where
+    n : ℕ
+    n = openNumber l s pool descriptors
+
+    go : (b : Bool) → eqb n 0 ≡ b → openAnswer l s pool descriptors .number ≡ n
+    go true e = rw e (sym (eqb-true n 0 e))
+    go false e = rw e
+
+pub opens-on-wiped : OpensOnWiped
+opens-on-wiped l s pool descriptors e =
+    let ok = openable l s pool descriptors (sym (open-number l s pool descriptors) ∙ e) in
+    (ok .clean-pool, ok .clean-words)
+
+pub hand-number : (l : Link) (pool descriptors : List ℕ) (slot : ℕ) → handAnswer l pool descriptors slot .number ≡ readNumber l pool descriptors slot
+unfolding handAnswer
+hand-number l pool descriptors slot = go (eqb n 0) refl
+  where
+    n : ℕ
+    n = readNumber l pool descriptors slot
+
+    go : (b : Bool) → eqb n 0 ≡ b → handAnswer l pool descriptors slot .number ≡ n
+    go true e = rw e (sym (eqb-true n 0 e))
+    go false e = rw e
+
+emptied : length emptySlot ≡ 280
+unfolding emptySlot
+emptied = length-replicate {A = ℕ} 280 0
+
+handed : (l : Link) (pool descriptors : List ℕ) (slot : ℕ) → readNumber l pool descriptors slot ≡ 0
+    → handAnswer l pool descriptors slot ≡ outcome 0 l (withSlot pool slot emptySlot) (withDescriptor descriptors slot 32768 0)
+unfolding handAnswer
+handed l pool descriptors slot z = done _ _ _ z
+
+-- a slot that is marked empty is not read
+empty-unread : (l : Link) (pool descriptors : List ℕ) (slot : ℕ) → malformed l ≡ false → l .opened ≡ true
+    → fitsMemory (l .settings .k) pool descriptors ≡ true → slot < l .settings .k → statusOf descriptors slot ≡ 32768 → readNumber l pool descriptors slot ≡ 13
+unfolding readNumber first
+empty-unread l pool descriptors slot m o f b s =
+    rw (m, o, f, lt-leb (l .settings .k) slot b, s)
+
+pub handed-back-is-empty : HandedBackIsEmpty
+unfolding fitsMemory
+handed-back-is-empty l pool descriptors slot e =
+    let z = sym (hand-number l pool descriptors slot) ∙ e in
+    let ok = readable l pool descriptors slot z in
+    let a : handAnswer l pool descriptors slot ≡ outcome 0 l (withSlot pool slot emptySlot) (withDescriptor descriptors slot 32768 0) = handed l pool descriptors slot z in
+    let p : length (withSlot pool slot emptySlot) ≡ 280 * l .settings .k = pool-length pool emptySlot slot emptied (omega (arith, ok .octets, ok .below)) ∙ ok .octets in
+    let w : length (withDescriptor descriptors slot 32768 0) ≡ 2 * l .settings .k = descriptors-length descriptors slot 32768 0 ∙ ok .words in
+    ap (λ (x : Outcome). readNumber l (x .pool) (x .descriptors) slot) a
+    ∙ empty-unread l (withSlot pool slot emptySlot) (withDescriptor descriptors slot 32768 0) slot (ok .good) (ok .opened)
+    (rw (eq-eqb _ _ p, eq-eqb _ _ w)) (ok .below) (descriptor-written descriptors slot 32768 0 (omega (arith, ok .words, ok .below)) .0)

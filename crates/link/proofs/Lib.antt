@@ -1,0 +1,3 @@
+-- The laws of the calls.
+pub mod Answers
+pub mod Kept

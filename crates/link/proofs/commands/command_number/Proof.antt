@@ -1,0 +1,26 @@
+-- `link::commands::command_number` meets its contract: the faults are asked in rising number.
+use Rattle.link.specs.Refusals.{first, commandNumber}
+use borrow.Author.Needs.{needs}
+use Rattle.link.proofs.commands.command_number.Statement.{statement}
+use Rattle.link.proofs.commands.command_number.Tie as tie
+
+is-malformed-requires : tie.Need-is-malformed-requires
+is-malformed-requires c κs = search needs
+
+refuse-requires : tie.Need-refuse-requires
+refuse-requires c κs = search needs
+
+refuse-requires-2 : tie.Need-refuse-requires-2
+refuse-requires-2 c κs = search needs
+
+refuse-requires-3 : tie.Need-refuse-requires-3
+refuse-requires-3 c κs = search needs
+
+returns : tie.Need-returns
+unfolding commandNumber first
+returns c = rw (c .refuse3 .ensures, c .before .refuse2 .ensures, c .before .before .before .refuse .ensures, c .before .before .before .before .is-malformed .ensures)
+
+pub command-number-spec : {M : Type 1} → statement M
+command-number-spec =
+    tie.close
+    (tie.spec is-malformed-requires refuse-requires refuse-requires-2 refuse-requires-3 returns)

@@ -1,0 +1,89 @@
+-- What each call answers, and what stands in the lent memory then. "A refusal returns its number, the link as given and zero for
+-- every other number of the answer; a refused read returns an empty part. No lent octet or word changes."
+use Prim.Native.Nat.{ℕ, zero, suc}
+use mathlib.Core.Bool.{Bool, true, false}
+use mathlib.Core.List.{List, []}
+use lib.Dec.{eqb}
+use lib.ListN.{take}
+use Rattle.memory.specs.Lent.{wiped, emptyDescriptors, lengthOf, slotOf, withSlot, withDescriptor, emptySlot}
+use Rattle.monitor.specs.declared.Mode.the-variants.{Failure, Alignment}
+use Rattle.monitor.specs.Monitor.{started, stopped}
+use Rattle.filter.specs.Memory.{emptyMemory}
+use Rattle.board.specs.declared.Settings.{Settings}
+use Rattle.board.specs.declared.Link.{Link}
+use Rattle.board.specs.Link.{newLink}
+use Rattle.board.specs.With.{withMonitor, withMemory, withCounting}
+use Rattle.link.specs.declared.Answer.{Answer}
+use Rattle.link.specs.Refusals.{pick, openNumber, commandNumber, readNumber}
+
+-- the answer of a call that is lent pool and descriptors
+pub record Outcome : Type 0 where
+  pub number : ℕ
+  pub link : Link
+  pub pool : List ℕ
+  pub descriptors : List ℕ
+
+abbrev pub outcome : ℕ → Link → List ℕ → List ℕ → Outcome
+outcome n l pool descriptors = record { number = n; link = l; pool = pool; descriptors = descriptors }
+
+-- "monitor off, all counts zero; N's counter is N, the next slot 0, the settings those given, no event bit set, octet counting off,
+-- the link open, the rest as in the new link"
+abbrev pub openedLink : Settings → Link
+openedLink s =
+    record {
+      opened = true;
+      settings = s;
+      line = newLink .line;
+      counting = record { on = false; left = s .n };
+      monitor = newLink .monitor;
+      memory = newLink .memory;
+      slots = newLink .slots;
+      counts = newLink .counts;
+      events = newLink .events;
+      transmitter = newLink .transmitter;
+    }
+
+-- "Open marks all slots empty with length 0"
+unfoldable pub openAnswer : Link → Settings → List ℕ → List ℕ → Outcome
+openAnswer l s pool descriptors =
+    pick (eqb (openNumber l s pool descriptors) 0)
+    (outcome 0 (openedLink s) pool (emptyDescriptors (s .k)))
+    (outcome (openNumber l s pool descriptors) l pool descriptors)
+
+-- "Wipe takes an octet area and a word area of any length, zeroes all of both and returns the new closed link."
+pub record Wiped : Type 0 where
+  pub link : Link
+  pub octets : List ℕ
+  pub words : List ℕ
+
+abbrev pub wipeAnswer : List ℕ → List ℕ → Wiped
+wipeAnswer octets words = record { link = newLink; octets = wiped octets; words = wiped words }
+
+-- "1 monitor off (its counts stay), 2 start failure monitor, 3 start alignment monitor, 4 next unit must be handed over (empties the
+-- filter), 5 enter octet counting"
+unfoldable pub obeyed : ℕ → Link → Link
+obeyed zero l = l
+obeyed (suc zero) l = withMonitor l (stopped (l .monitor))
+obeyed (suc (suc zero)) l = withMonitor l (started Failure)
+obeyed (suc (suc (suc zero))) l = withMonitor l (started Alignment)
+obeyed (suc (suc (suc (suc zero)))) l = withMemory l emptyMemory
+obeyed (suc (suc (suc (suc (suc zero))))) l = withCounting l (record { on = true; left = l .counting .left })
+obeyed (suc (suc (suc (suc (suc (suc n)))))) l = l
+
+unfoldable pub commandAnswer : Link → ℕ → Answer
+commandAnswer l command =
+    pick (eqb (commandNumber l command) 0)
+    (record { number = 0; link = obeyed command l })
+    (record { number = commandNumber l command; link = l })
+
+-- "Read returns the first length octets of the slot, as a part of the pool"
+unfoldable pub readPart : Link → List ℕ → List ℕ → ℕ → List ℕ
+readPart l pool descriptors slot =
+    pick (eqb (readNumber l pool descriptors slot) 0) (take (lengthOf descriptors slot) (slotOf pool slot)) []
+
+-- "Hand back zeroes the slot and its length and marks it empty."
+unfoldable pub handAnswer : Link → List ℕ → List ℕ → ℕ → Outcome
+handAnswer l pool descriptors slot =
+    pick (eqb (readNumber l pool descriptors slot) 0)
+    (outcome 0 l (withSlot pool slot emptySlot) (withDescriptor descriptors slot 32768 0))
+    (outcome (readNumber l pool descriptors slot) l pool descriptors)

@@ -1,0 +1,4 @@
+-- The calls of a host.
+pub mod Refusals
+pub mod Calls
+pub mod Promises

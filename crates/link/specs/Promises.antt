@@ -1,0 +1,50 @@
+-- What is promised of the calls on one link and its memory. The proofs are in proofs/Kept.antt.
+use Prim.Native.Nat.{ℕ}
+use mathlib.Core.Path.{_≡_}
+use mathlib.Core.Bool.{Bool, true, false}
+use mathlib.Core.List.{List, []}
+use Rattle.memory.specs.Lent.{zeros}
+use Rattle.board.specs.declared.Settings.{Settings}
+use Rattle.board.specs.declared.Link.{Link}
+use Rattle.board.specs.Link.{newLink}
+use Rattle.link.specs.Refusals.{openNumber, commandNumber, readNumber}
+use Rattle.link.specs.Calls.{outcome, openAnswer, wipeAnswer, commandAnswer, readPart, handAnswer}
+
+-- D1.2: a refused call gives back the link and every lent list as they were.
+abbrev pub RefusedOpen : Type 0
+RefusedOpen =
+    (l : Link) (s : Settings) (pool descriptors : List ℕ) → (openNumber l s pool descriptors ≡ 0 → ⊥)
+    → openAnswer l s pool descriptors ≡ outcome (openNumber l s pool descriptors) l pool descriptors
+
+abbrev pub RefusedCommand : Type 0
+RefusedCommand =
+    (l : Link) (command : ℕ) → (commandNumber l command ≡ 0 → ⊥)
+    → commandAnswer l command ≡ record { number = commandNumber l command; link = l }
+
+abbrev pub RefusedRead : Type 0
+RefusedRead =
+    (l : Link) (pool descriptors : List ℕ) (slot : ℕ) → (readNumber l pool descriptors slot ≡ 0 → ⊥)
+    → readPart l pool descriptors slot ≡ []
+
+abbrev pub RefusedHandBack : Type 0
+RefusedHandBack =
+    (l : Link) (pool descriptors : List ℕ) (slot : ℕ) → (readNumber l pool descriptors slot ≡ 0 → ⊥)
+    → handAnswer l pool descriptors slot ≡ outcome (readNumber l pool descriptors slot) l pool descriptors
+
+-- D1.3: after the wipe each lent octet and word is zero and the link is the new one.
+abbrev pub WipeLeavesNothing : Type 0
+WipeLeavesNothing =
+    (octets words : List ℕ)
+    → (wipeAnswer octets words .link ≡ newLink) × (zeros (wipeAnswer octets words .octets) ≡ true) × (zeros (wipeAnswer octets words .words) ≡ true)
+
+-- D1.4: a booking does not open on memory that isn't wiped.
+abbrev pub OpensOnWiped : Type 0
+OpensOnWiped =
+    (l : Link) (s : Settings) (pool descriptors : List ℕ) → openAnswer l s pool descriptors .number ≡ 0
+    → (zeros pool ≡ true) × (zeros descriptors ≡ true)
+
+-- After a slot is handed back, reading it is refused with 13.
+abbrev pub HandedBackIsEmpty : Type 0
+HandedBackIsEmpty =
+    (l : Link) (pool descriptors : List ℕ) (slot : ℕ) → handAnswer l pool descriptors slot .number ≡ 0
+    → readNumber l (handAnswer l pool descriptors slot .pool) (handAnswer l pool descriptors slot .descriptors) slot ≡ 13

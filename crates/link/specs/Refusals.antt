@@ -1,0 +1,64 @@
+-- The refusal table: "Checked in rising number, where the call has that fault to find; each is given exactly then, and success is 0."
+use Prim.Native.Nat.{ℕ, _+_, _*_}
+use mathlib.Core.Bool.{Bool, true, false, not, _&&_, _||_}
+use mathlib.Core.List.{List, [], _∷_}
+use lib.Dec.{eqb, leb, ltb}
+use lib.ListN.{length}
+use Rattle.memory.specs.Lent.{zeros, statusOf, lengthOf}
+use Rattle.board.specs.declared.Settings.{Settings}
+use Rattle.board.specs.declared.Link.{Link}
+use Rattle.board.specs.Order.{inRange, malformed}
+
+abbrev pub pick : {A : Type 0} → Bool → A → A → A
+pick true a b = a
+pick false a b = b
+
+pub record Fault : Type 0 where
+  pub found : Bool
+  pub number : ℕ
+
+abbrev pub fault : Bool → ℕ → Fault
+fault b n = record { found = b; number = n }
+
+-- the number of the first fault that is found, and 0 for none
+unfoldable pub first : List Fault → ℕ
+first [] = 0
+first (f ∷ fs) = pick (f .found) (f .number) (first fs)
+
+-- "pool [..] exactly 280K octets [and] descriptors [..] 2K words"
+unfoldable pub fitsMemory : ℕ → List ℕ → List ℕ → Bool
+fitsMemory k pool descriptors = eqb (length pool) (280 * k) && eqb (length descriptors) (2 * k)
+
+abbrev pub openFaults : Link → Settings → List ℕ → List ℕ → List Fault
+openFaults l s pool descriptors =
+    fault (malformed l) 1
+    ∷ fault (l .opened) 3
+    ∷ fault (not (inRange s)) 4
+    ∷ fault (not (fitsMemory (s .k) pool descriptors)) 5
+    ∷ fault (not (zeros pool && zeros descriptors)) 6
+    ∷ []
+
+abbrev pub commandFaults : Link → ℕ → List Fault
+commandFaults l command =
+    fault (malformed l) 1
+    ∷ fault (not (l .opened)) 2
+    ∷ fault (ltb command 1 || ltb 5 command) 11
+    ∷ []
+
+abbrev pub readFaults : Link → List ℕ → List ℕ → ℕ → List Fault
+readFaults l pool descriptors slot =
+    fault (malformed l) 1
+    ∷ fault (not (l .opened)) 2
+    ∷ fault (not (fitsMemory (l .settings .k) pool descriptors)) 5
+    ∷ fault (leb (l .settings .k) slot) 12
+    ∷ fault (ltb 2 (statusOf descriptors slot) || ltb 278 (lengthOf descriptors slot)) 13
+    ∷ []
+
+unfoldable pub openNumber : Link → Settings → List ℕ → List ℕ → ℕ
+openNumber l s pool descriptors = first (openFaults l s pool descriptors)
+
+unfoldable pub commandNumber : Link → ℕ → ℕ
+commandNumber l command = first (commandFaults l command)
+
+unfoldable pub readNumber : Link → List ℕ → List ℕ → ℕ → ℕ
+readNumber l pool descriptors slot = first (readFaults l pool descriptors slot)

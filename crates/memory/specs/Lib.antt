@@ -1,0 +1,3 @@
+-- The memory that the host lends.
+pub mod Lent
+pub mod Promises

@@ -1,0 +1,68 @@
+-- What is promised of the lent memory. The proofs are in proofs/Slots.antt.
+use Prim.Native.Nat.{ℕ, _+_, _*_, _≤_, _<_}
+use mathlib.Core.Path.{_≡_}
+use mathlib.Core.Bool.{true}
+use mathlib.Core.List.{List}
+use mathlib.Core.Logic.{_↔_, _≢_}
+use lib.ListN.{length, replicate, take}
+use Rattle.memory.specs.Lent.{zeros, wiped, emptyDescriptors, statusOf, lengthOf, slotOf, withSlot, withDescriptor, filled, emptySlot}
+
+-- A slot written holds the octets that were written,
+abbrev pub SlotWritten : Type 0
+SlotWritten =
+    (pool octets : List ℕ) (s : ℕ) → length octets ≡ 280 → 280 * s + 280 ≤ length pool → slotOf (withSlot pool s octets) s ≡ octets
+
+-- every other slot holds what it held,
+abbrev pub SlotKept : Type 0
+SlotKept =
+    (pool octets : List ℕ) (s t : ℕ) → length octets ≡ 280 → 280 * s + 280 ≤ length pool → t ≢ s
+    → slotOf (withSlot pool s octets) t ≡ slotOf pool t
+
+-- and the pool is as long as it was.
+abbrev pub PoolLength : Type 0
+PoolLength =
+    (pool octets : List ℕ) (s : ℕ) → length octets ≡ 280 → 280 * s + 280 ≤ length pool → length (withSlot pool s octets) ≡ length pool
+
+-- Descriptors written have the slot's new status and length,
+abbrev pub DescriptorWritten : Type 0
+DescriptorWritten =
+    (descriptors : List ℕ) (s status count : ℕ) → 2 * s + 2 ≤ length descriptors
+    → (statusOf (withDescriptor descriptors s status count) s ≡ status) × (lengthOf (withDescriptor descriptors s status count) s ≡ count)
+
+-- those of every other slot as they were,
+abbrev pub DescriptorKept : Type 0
+DescriptorKept =
+    (descriptors : List ℕ) (s t status count : ℕ) → t ≢ s
+    → (statusOf (withDescriptor descriptors s status count) t ≡ statusOf descriptors t)
+    × (lengthOf (withDescriptor descriptors s status count) t ≡ lengthOf descriptors t)
+
+-- and as many words.
+abbrev pub DescriptorsLength : Type 0
+DescriptorsLength =
+    (descriptors : List ℕ) (s status count : ℕ) → length (withDescriptor descriptors s status count) ≡ length descriptors
+
+-- The descriptors of k empty slots are 2k words, and each slot is empty with length 0.
+abbrev pub EmptyLength : Type 0
+EmptyLength = (k : ℕ) → length (emptyDescriptors k) ≡ 2 * k
+
+abbrev pub EmptyEach : Type 0
+EmptyEach =
+    (k s : ℕ) → s < k → (statusOf (emptyDescriptors k) s ≡ 32768) × (lengthOf (emptyDescriptors k) s ≡ 0)
+
+-- The test for zeros holds exactly of octets or words that are all zero, so it holds of what was wiped.
+abbrev pub ZerosExact : Type 0
+ZerosExact = (xs : List ℕ) → (zeros xs ≡ true) ↔ (xs ≡ replicate (length xs) 0)
+
+abbrev pub WipedZeros : Type 0
+WipedZeros = (xs : List ℕ) → zeros (wiped xs) ≡ true
+
+-- An empty slot has 280 octets.
+abbrev pub EmptySlotLength : Type 0
+EmptySlotLength = length emptySlot ≡ 280
+
+-- A unit of up to 280 octets fills a slot, and stands at its front.
+abbrev pub FilledLength : Type 0
+FilledLength = (unit : List ℕ) → length unit ≤ 280 → length (filled unit) ≡ 280
+
+abbrev pub FilledFront : Type 0
+FilledFront = (unit : List ℕ) → take (length unit) (filled unit) ≡ unit

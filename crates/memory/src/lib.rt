@@ -1,0 +1,157 @@
+// The memory that the host lends: the pool, K slots of 280 octets each, and the descriptors, two words for each slot: status, then length.
+ghost use mathlib.Core.Path.{_≡_};
+ghost use Prim.Native.Nat.{ℕ, _+_, _*_, _≤_, _<_};
+ghost use lib.ListN.{length, take, getD};
+ghost use Rattle.memory.specs.Lent.{zeros, wiped, emptyDescriptors, withSlot, withDescriptor, filled, emptySlot};
+
+// Whether every octet is zero.
+pub fn no_octet(octets: &[u8]) -> bool
+    ensures { λ r. ⌜ r ≡ zeros (now (octets .entry)) ⌝ }
+{
+    let mut i: usize = 0;
+    while i < octets.len() {
+        if octets[i] != 0 {
+            return false;
+        }
+        i += 1;
+    }
+    true
+}
+
+// Whether every word is zero.
+pub fn no_word(words: &[u16]) -> bool
+    ensures { λ r. ⌜ r ≡ zeros (now (words .entry)) ⌝ }
+{
+    let mut i: usize = 0;
+    while i < words.len() {
+        if words[i] != 0 {
+            return false;
+        }
+        i += 1;
+    }
+    true
+}
+
+// Zeroes all octets.
+pub fn wipe_octets(octets: &mut [u8])
+    ensures { λ _. ⌜ now (octets .exit) ≡ wiped (now (octets .entry)) ⌝ }
+{
+    let mut i: usize = 0;
+    while i < octets.len() {
+        octets[i] = 0;
+        i += 1;
+    }
+}
+
+// Zeroes all words.
+pub fn wipe_words(words: &mut [u16])
+    ensures { λ _. ⌜ now (words .exit) ≡ wiped (now (words .entry)) ⌝ }
+{
+    let mut i: usize = 0;
+    while i < words.len() {
+        words[i] = 0;
+        i += 1;
+    }
+}
+
+// The word at a place, and 0 past the end.
+pub fn word_at(words: &[u16], at: usize) -> u16
+    ensures { λ r. ⌜ r ≡ getD (now (words .entry)) at 0 ⌝ }
+{
+    if at < words.len() { words[at] } else { 0 }
+}
+
+// Marks all k slots empty, with length 0.
+pub fn mark_empty(descriptors: &mut [u16], k: u16)
+    requires { ⌜ length (now descriptors) ≡ 2 * k ⌝ }
+    ensures { λ _. ⌜ now (descriptors .exit) ≡ emptyDescriptors k ⌝ }
+{
+    let mut i: usize = 0;
+    while i < descriptors.len() {
+        descriptors[i] = empty_word(i);
+        i += 1;
+    }
+}
+
+// Puts the first `count` octets of a gathered unit into a slot: the rest of the slot zero, the length, the status.
+pub fn store(
+    pool: &mut [u8],
+    descriptors: &mut [u16],
+    slot: u16,
+    area: &[u8; 279],
+    count: u16,
+    status: u16,
+)
+    requires { ⌜ (280 * slot + 280 ≤ length (now pool)) × (2 * slot + 2 ≤ length (now descriptors)) ⌝ }
+    ensures { λ _. ⌜ (now (pool .exit) ≡ withSlot (now (pool .entry)) slot (filled (take count (now (area .entry))))) × (now (descriptors .exit) ≡ withDescriptor (now (descriptors .entry)) slot status count) ⌝ }
+{
+    let from = start_of(slot);
+    let unit = first_octets(area, count as usize);
+    fill_slot(&mut pool[from..from + 280], unit);
+    describe(descriptors, slot, status, count);
+}
+
+// Zeroes a slot and its length, and marks it empty.
+pub fn release(pool: &mut [u8], descriptors: &mut [u16], slot: u16)
+    requires { ⌜ (280 * slot + 280 ≤ length (now pool)) × (2 * slot + 2 ≤ length (now descriptors)) ⌝ }
+    ensures { λ _. ⌜ (now (pool .exit) ≡ withSlot (now (pool .entry)) slot emptySlot) × (now (descriptors .exit) ≡ withDescriptor (now (descriptors .entry)) slot 32768 0) ⌝ }
+{
+    let from = start_of(slot);
+    wipe_octets(&mut pool[from..from + 280]);
+    describe(descriptors, slot, 32768, 0);
+}
+
+// Where a slot's octets begin in the pool.
+fn start_of(slot: u16) -> usize
+    ensures { λ r. ⌜ r ≡ 280 * slot ⌝ }
+{
+    slot as usize * 280
+}
+
+// Writes a slot's status and length.
+fn describe(descriptors: &mut [u16], slot: u16, status: u16, count: u16)
+    requires { ⌜ 2 * slot + 2 ≤ length (now descriptors) ⌝ }
+    ensures { λ _. ⌜ now (descriptors .exit) ≡ withDescriptor (now (descriptors .entry)) slot status count ⌝ }
+{
+    let at = slot as usize * 2;
+    descriptors[at] = status;
+    descriptors[at + 1] = count;
+}
+
+// What stands at word i of the descriptors of empty slots.
+fn empty_word(i: usize) -> u16
+    ensures { λ r. ⌜ ((k : ℕ) → i < 2 * k → r ≡ getD (emptyDescriptors k) i 0) ⌝ }
+{
+    if i % 2 == 0 { 32768 } else { 0 }
+}
+
+// The first `count` octets of a gathered unit's area, or all of it.
+fn first_octets(area: &[u8; 279], count: usize) -> &[u8]
+    ensures { λ r. ⌜ (now r ≡ take count (now (area .entry))) × (length (now r) ≤ 279) ⌝ }
+{
+    let all: &[u8] = area;
+    if count < all.len() {
+        &all[..count]
+    } else {
+        all
+    }
+}
+
+// What stands at place i of a slot that holds a unit.
+fn octet_at(unit: &[u8], i: usize) -> u8
+    ensures { λ r. ⌜ r ≡ getD (now (unit .entry)) i 0 ⌝ }
+{
+    if i < unit.len() { unit[i] } else { 0 }
+}
+
+// Writes a unit into a slot, all 280 octets of it.
+fn fill_slot(slot: &mut [u8], unit: &[u8])
+    requires { ⌜ (length (now slot) ≡ 280) × (length (now unit) ≤ 280) ⌝ }
+    ensures { λ _. ⌜ now (slot .exit) ≡ filled (now (unit .entry)) ⌝ }
+{
+    let mut i: usize = 0;
+    while i < slot.len() {
+        slot[i] = octet_at(unit, i);
+        i += 1;
+    }
+}

@@ -1,0 +1,40 @@
+-- A happening and the monitor. The front end of the receiver gives happenings in order and never looks at the monitor; the monitor, the
+-- event bits and the records follow from the happenings.
+use Prim.Native.Nat.{ℕ}
+use mathlib.Core.Bool.{Bool, true, false}
+use mathlib.Core.List.{List, [], _∷_}
+use lib.Bits.{bitOr}
+use Rattle.bits.specs.Machine.{run}
+use Rattle.monitor.specs.declared.Alarm.{Alarm}
+use Rattle.monitor.specs.declared.Alarm.the-variants.{Nothing, Suer, Aerm}
+use Rattle.monitor.specs.declared.Limits.{Limits}
+use Rattle.monitor.specs.declared.Stepped.{Stepped}
+use Rattle.monitor.specs.Monitor.{step}
+use Rattle.records.specs.declared.Happening.{Happening}
+use Rattle.records.specs.declared.Watch.{Watch}
+use Rattle.records.specs.declared.Noted.{Noted}
+
+-- "Event bits, kept until cleared: [..] 2 SUER, 3 AERM"
+abbrev pub alarmBit : Alarm → ℕ
+alarmBit Nothing = 0
+alarmBit Suer = 4
+alarmBit Aerm = 8
+
+-- "13 one if this event raised SUER or AERM"
+abbrev pub raises : Alarm → Bool
+raises Nothing = false
+raises Suer = true
+raises Aerm = true
+
+abbrev pub pick : Bool → Noted → Noted → Noted
+pick true a b = a
+pick false a b = b
+
+abbrev pub watching : ℕ → Stepped → Noted
+watching own s = record { watch = record { monitor = s .monitor; events = bitOr own (alarmBit (s .alarm)) }; raised = raises (s .alarm) }
+
+-- "The monitor takes one event, errored or not", if the happening is one; its own event bits and the alarm's are set
+unfoldable pub noted : Limits → Watch → Happening → Noted
+noted l w h =
+    pick (h .event) (watching (bitOr (w .events) (h .bits)) (step l (w .monitor) (h .errored)))
+    (record { watch = record { monitor = w .monitor; events = bitOr (w .events) (h .bits) }; raised = false })

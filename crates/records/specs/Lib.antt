@@ -1,0 +1,3 @@
+-- Happenings, the monitor's part in them, and records.
+pub mod Happening
+pub mod Record

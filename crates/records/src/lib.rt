@@ -1,0 +1,124 @@
+// What happens on a link, what the monitor makes of it, and its record of sixteen octets.
+use monitor::Alarm;
+use monitor::Limits;
+use monitor::Monitor;
+ghost use mathlib.Core.Path.{_≡_};
+ghost use mathlib.Core.List.{List, [], _∷_};
+ghost use Prim.Native.Nat.{ℕ, _+_, _*_, _/_, _%_, _≤_, _<_};
+ghost use Rattle.bits.specs.Octets.{worth};
+ghost use lib.ListN.{length};
+ghost use lib.Seq.{sets};
+ghost use Rattle.records.specs.Happening.{alarmBit, noted};
+ghost use Rattle.records.specs.Record.{recordOf};
+
+// One thing that happens: its record's kind, whether a unit was lost for want of a slot, the unit's length and first five octets, the
+// good count then, whether the monitors take it as an event and as an errored one, and the event bits that it sets by itself.
+#[repr(C)]
+pub struct Happening {
+    pub kind: u8,
+    pub lost: bool,
+    pub length: u16,
+    pub first: [u8; 5],
+    pub good: u16,
+    pub event: bool,
+    pub errored: bool,
+    pub bits: u16,
+}
+
+// The monitor and the event bits.
+pub struct Watch {
+    pub monitor: Monitor,
+    pub events: u16,
+}
+
+// What a happening leaves: the watch, and whether it raised SUER or AERM.
+pub struct Noted {
+    pub watch: Watch,
+    pub raised: bool,
+}
+
+// The event bit that an alarm sets.
+fn alarm_bit(alarm: Alarm) -> u16
+    ensures { λ r. ⌜ r ≡ alarmBit alarm ⌝ }
+{
+    match alarm {
+        Alarm::Nothing => 0,
+        Alarm::Suer => 4,
+        Alarm::Aerm => 8,
+    }
+}
+
+// One happening: the monitor takes it if it is an event; the event bits are kept and those of the happening and of an alarm are set.
+pub fn note(limits: Limits, watch: Watch, h: Happening) -> Noted
+    requires { ⌜ (watch .monitor .count < 65535) × (watch .monitor .number < 65535) ⌝ }
+    ensures { λ r. ⌜ r ≡ noted limits watch h ⌝ }
+{
+    let m = watch.monitor;
+    let own = watch.events | h.bits;
+    if h.event {
+        let s = m.step(limits, h.errored);
+        let next = s.monitor;
+        let alarm = s.alarm;
+        let bit = alarm_bit(alarm);
+        return Noted {
+            watch: Watch {
+                monitor: next,
+                events: own | bit,
+            },
+            raised: bit != 0,
+        };
+    }
+    Noted {
+        watch: Watch {
+            monitor: m,
+            events: own,
+        },
+        raised: false,
+    }
+}
+
+// Writes the record of a happening at place n of the record area.
+pub fn write_record(records: &mut [u8], n: usize, h: Happening, count: u16, raised: bool)
+    requires { ⌜ 16 * n + 16 ≤ length (now records) ⌝ }
+    ensures { λ _. ⌜ now (records .exit) ≡ sets (now (records .entry)) (16 * n) (recordOf h count raised) ⌝ }
+{
+    let at = 16 * n;
+    let first = h.first;
+    records[at] = h.kind;
+    records[at + 1] = one_if(h.lost);
+    put_word(&mut *records, at + 2, h.length);
+    put_word(&mut *records, at + 4, count);
+    put_word(&mut *records, at + 6, h.good);
+    put_first(&mut *records, at + 8, first);
+    records[at + 13] = one_if(raised);
+    records[at + 14] = 0;
+    records[at + 15] = 0;
+}
+
+// One for true, zero for false.
+fn one_if(b: bool) -> u8
+    ensures { λ r. ⌜ r ≡ worth b ⌝ }
+{
+    if b { 1 } else { 0 }
+}
+
+// A word at a place, low octet first.
+fn put_word(records: &mut [u8], at: usize, word: u16)
+    requires { ⌜ at + 2 ≤ length (now records) ⌝ }
+    ensures { λ _. ⌜ now (records .exit) ≡ sets (now (records .entry)) at (word % 256 ∷ word / 256 ∷ []) ⌝ }
+{
+    records[at] = (word % 256) as u8;
+    records[at + 1] = (word / 256) as u8;
+}
+
+// Five octets at a place.
+fn put_first(records: &mut [u8], at: usize, first: [u8; 5])
+    requires { ⌜ at + 5 ≤ length (now records) ⌝ }
+    ensures { λ _. ⌜ now (records .exit) ≡ sets (now (records .entry)) at first ⌝ }
+{
+    records[at] = first[0];
+    records[at + 1] = first[1];
+    records[at + 2] = first[2];
+    records[at + 3] = first[3];
+    records[at + 4] = first[4];
+}
