@@ -84,6 +84,10 @@ module _ (M : ℕ) (s : Receiver) where
       go false e true q = rw (e, q) (record { single = flag-single s; pays = λ _. omega (arith, spent-low (s .run) (omega (arith, eqb-true (s .run) 6 q)), eqb-true (s .run) 6 q, flag-single s); grows = omega arith; empties = λ _. refl })
       go false e false q = rw (e, q) (gather-pays 0 false (omega arith))
 
+-- a bit finds one thing at most
+pub finds-single : (M : ℕ) (s : Receiver) (b : Bool) → length (finds M s b) ≤ 1
+finds-single M s b = step-pays M s b .single
+
 -- where the unit cannot become long, each finding costs seven bits
 paid : (M : ℕ) (bs : List Bool) (s : Receiver) → length (s .gathered) + length bs ≤ 8 * M + 7 → 7 * length (findings M s bs) ≤ spent (s .run) + length bs
 paid M [] s h = omega arith

@@ -3,5 +3,6 @@ pub mod Ways
 pub mod Encoding
 pub mod Readings
 pub mod Bound
+pub mod Stops
 pub mod Judged
 pub mod Cases

@@ -14,8 +14,9 @@ use Rattle.board.specs.declared.Link.{Link}
 use Rattle.board.specs.Order.{inRange, malformed}
 use Rattle.board.proofs.Orders.{both, neither}
 use Rattle.link.specs.declared.Answer.{Answer}
-use Rattle.link.specs.Refusals.{pick, Fault, fault, first, fitsMemory, openFaults, openNumber, commandNumber, readFaults, readNumber}
+use Rattle.link.specs.Refusals.{pick, fitsMemory, openNumber, commandNumber, readNumber}
 use Rattle.link.specs.Calls.{Outcome, outcome, openedLink, openAnswer, obeyed, commandAnswer, readPart, handAnswer}
+use Rattle.link.proofs.Faults.{none}
 
 pick-true : {A : Type 0} {b : Bool} (x y : A) → b ≡ true → pick b x y ≡ x
 pick-true x y e = rw e
@@ -29,12 +30,6 @@ done n a b z = pick-true a b (eq-eqb n 0 z)
 
 pub refused : {A : Type 0} (n : ℕ) (yes-done no-done : A) → (n ≡ 0 → ⊥) → pick (eqb n 0) yes-done no-done ≡ no-done
 refused n a b z = pick-false a b (ne-eqb n 0 z)
-
--- where no fault is found, neither the first is, nor one of the rest
-none : (b : Bool) (n : ℕ) (fs : List Fault) → (n ≡ 0 → ⊥) → first (fault b n ∷ fs) ≡ 0 → (b ≡ false) × (first fs ≡ 0)
-unfolding first
-none true n fs z e = absurd (z e)
-none false n fs z e = (refl, e)
 
 -- ---- open
 pub record Openable (l : Link) (s : Settings) (pool descriptors : List ℕ) : Type 0 where

@@ -1,16 +1,35 @@
--- What is promised of the calls on one link and its memory. The proofs are in proofs/Kept.antt.
+-- What is promised of the calls on one link and its memory. The proofs are in proofs/Faults.antt and proofs/Kept.antt.
 use Prim.Native.Nat.{ℕ}
 use mathlib.Core.Path.{_≡_}
 use mathlib.Core.Bool.{Bool, true, false}
-use mathlib.Core.List.{List, []}
+use mathlib.Core.List.{List, [], _∷_, _++_}
+use mathlib.Core.Logic.{_↔_}
 use Rattle.memory.specs.Lent.{zeros}
 use Rattle.board.specs.declared.Settings.{Settings}
 use Rattle.board.specs.declared.Link.{Link}
 use Rattle.board.specs.Link.{newLink}
-use Rattle.link.specs.Refusals.{openNumber, commandNumber, readNumber}
+use Rattle.link.specs.Refusals.{Fault, fault, first, noneFound, rising, openFaults, commandFaults, readFaults, openNumber, commandNumber, readNumber}
 use Rattle.link.specs.Calls.{outcome, openAnswer, wipeAnswer, commandAnswer, readPart, handAnswer}
 
--- D1.2: a refused call gives back the link and every lent list as they were.
+-- D1.2: in a table of rising numbers a fault's number is given exactly if that fault is found and none before it,
+abbrev pub FirstFault : Type 0
+FirstFault =
+    (before after : List Fault) (found : Bool) (n : ℕ) → rising 0 (before ++ (fault found n ∷ after)) ≡ true
+    → (first (before ++ (fault found n ∷ after)) ≡ n) ↔ ((noneFound before ≡ true) × (found ≡ true))
+
+-- and 0 exactly if none is found;
+abbrev pub NoFault : Type 0
+NoFault = (fs : List Fault) → rising 0 fs ≡ true → (first fs ≡ 0) ↔ (noneFound fs ≡ true)
+
+-- each call's table is such.
+abbrev pub TablesRise : Type 0
+TablesRise =
+    (l : Link) (s : Settings) (pool descriptors : List ℕ) (command slot : ℕ)
+    → (rising 0 (openFaults l s pool descriptors) ≡ true)
+    × (rising 0 (commandFaults l command) ≡ true)
+    × (rising 0 (readFaults l pool descriptors slot) ≡ true)
+
+-- D1.2: a refused call gives back the link and every lent list as they were; a refused read gives an empty part.
 abbrev pub RefusedOpen : Type 0
 RefusedOpen =
     (l : Link) (s : Settings) (pool descriptors : List ℕ) → (openNumber l s pool descriptors ≡ 0 → ⊥)

@@ -1,18 +1,18 @@
 -- The laws of slots and descriptors that specs/Promises.antt states.
 use Prim.Native.Nat.{ℕ, zero, suc, _+_, _-_, _*_, _<_, _≤_}
 use mathlib.Core.Path.{_≡_, refl, sym, ap, ap₂, _∙_}
-use mathlib.Core.Bool.{Bool, true, false, _&&_}
+use mathlib.Core.Bool.{Bool, true, false, cond, _&&_}
 use mathlib.Core.List.{List, [], _∷_, _++_, append-assoc}
 use mathlib.Core.Logic.{_≢_}
 use native.Mathlib.Nat.{not-suc-le-zero}
 use native.Mathlib.Decide.{decLt}
 use native.Mathlib.Omega.{arith}
-use borrow.Author.Tests.{eqb-true}
+use borrow.Author.Tests.{eqb-true, eqb-false}
 use lib.Dec.{eqb}
 use lib.ListN.{length, getD, take, drop, set, replicate, length-append, length-drop, length-set, length-replicate, take-append-drop}
 use lib.Seq.{length-take-le, take-append-le, take-append-seam, take-at, drop-append-le, drop-at, drop-drop, getD-set-same, getD-set-other}
-use Rattle.memory.specs.Lent.{zeros, wiped, emptyDescriptors, slotOf, withSlot, withDescriptor, filled, emptySlot}
-use Rattle.memory.specs.Promises.{SlotWritten, SlotKept, PoolLength, DescriptorWritten, DescriptorKept, DescriptorsLength, EmptyLength, EmptyEach, ZerosExact, WipedZeros, EmptySlotLength, FilledLength, FilledFront}
+use Rattle.memory.specs.Lent.{zeros, wiped, emptyDescriptors, slotOf, withSlot, withDescriptor, filled, emptySlot, nextSlot}
+use Rattle.memory.specs.Promises.{SlotWritten, SlotKept, PoolLength, DescriptorWritten, DescriptorKept, DescriptorsLength, EmptyLength, EmptyEach, ZerosExact, WipedZeros, EmptySlotLength, FilledLength, FilledFront, NextBelow}
 
 -- ---- a slot written
 -- a slot within the front of a list
@@ -154,3 +154,12 @@ filled-length unit h =
 pub filled-front : FilledFront
 unfolding filled
 filled-front unit = take-append-seam unit (replicate (280 - length unit) 0)
+
+-- ---- the ring
+pub next-below : NextBelow
+unfolding nextSlot
+next-below k next h = go (eqb (next + 1) k) refl
+  where
+    go : (b : Bool) → eqb (next + 1) k ≡ b → cond b 0 (next + 1) < k
+    go true e = omega arith
+    go false e = let n = eqb-false (next + 1) k e in omega arith

@@ -1,6 +1,6 @@
 -- "The pool: K slots of 280 octets each; the descriptors, a lent run of 16-bit words, two for each slot: status, then length."
 use Prim.Native.Nat.{ℕ, zero, suc, _+_, _-_, _*_}
-use mathlib.Core.Bool.{Bool, true, false, _&&_}
+use mathlib.Core.Bool.{Bool, true, false, cond, _&&_}
 use mathlib.Core.List.{List, [], _∷_, _++_}
 use lib.Dec.{eqb}
 use lib.ListN.{length, replicate, getD, take, drop, set}
@@ -44,3 +44,7 @@ filled unit = unit ++ replicate (280 - length unit) 0
 -- an empty slot
 unfoldable pub emptySlot : List ℕ
 emptySlot = replicate 280 0
+
+-- "next slot moves on, round the ring" of k slots
+unfoldable pub nextSlot : ℕ → ℕ → ℕ
+nextSlot k next = cond (eqb (next + 1) k) 0 (next + 1)

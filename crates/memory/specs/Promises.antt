@@ -5,7 +5,7 @@ use mathlib.Core.Bool.{true}
 use mathlib.Core.List.{List}
 use mathlib.Core.Logic.{_↔_, _≢_}
 use lib.ListN.{length, replicate, take}
-use Rattle.memory.specs.Lent.{zeros, wiped, emptyDescriptors, statusOf, lengthOf, slotOf, withSlot, withDescriptor, filled, emptySlot}
+use Rattle.memory.specs.Lent.{zeros, wiped, emptyDescriptors, statusOf, lengthOf, slotOf, withSlot, withDescriptor, filled, emptySlot, nextSlot}
 
 -- A slot written holds the octets that were written,
 abbrev pub SlotWritten : Type 0
@@ -66,3 +66,7 @@ FilledLength = (unit : List ℕ) → length unit ≤ 280 → length (filled unit
 
 abbrev pub FilledFront : Type 0
 FilledFront = (unit : List ℕ) → take (length unit) (filled unit) ≡ unit
+
+-- The slot after one of k slots is one of them.
+abbrev pub NextBelow : Type 0
+NextBelow = (k next : ℕ) → next < k → nextSlot k next < k

@@ -2,7 +2,7 @@
 ghost use mathlib.Core.Path.{_≡_};
 ghost use Prim.Native.Nat.{ℕ, _+_, _*_, _≤_, _<_};
 ghost use lib.ListN.{length, take, getD};
-ghost use Rattle.memory.specs.Lent.{zeros, wiped, emptyDescriptors, withSlot, withDescriptor, filled, emptySlot};
+ghost use Rattle.memory.specs.Lent.{zeros, wiped, emptyDescriptors, withSlot, withDescriptor, filled, emptySlot, nextSlot};
 
 // Whether every octet is zero.
 pub fn no_octet(octets: &[u8]) -> bool
@@ -91,6 +91,23 @@ pub fn store(
     describe(descriptors, slot, status, count);
 }
 
+// Puts a unit into slot `next` of k, as `store` does, and gives the slot for the unit after it.
+pub fn store_next(
+    pool: &mut [u8],
+    descriptors: &mut [u16],
+    next: u16,
+    k: u16,
+    area: &[u8; 279],
+    count: u16,
+    status: u16,
+) -> u16
+    requires { ⌜ (280 * next + 280 ≤ length (now pool)) × (2 * next + 2 ≤ length (now descriptors)) × (next < 65535) ⌝ }
+    ensures { λ r. ⌜ (r ≡ nextSlot k next) × (now (pool .exit) ≡ withSlot (now (pool .entry)) next (filled (take count (now (area .entry))))) × (now (descriptors .exit) ≡ withDescriptor (now (descriptors .entry)) next status count) ⌝ }
+{
+    store(pool, descriptors, next, area, count, status);
+    next_slot(k, next)
+}
+
 // Zeroes a slot and its length, and marks it empty.
 pub fn release(pool: &mut [u8], descriptors: &mut [u16], slot: u16)
     requires { ⌜ (280 * slot + 280 ≤ length (now pool)) × (2 * slot + 2 ≤ length (now descriptors)) ⌝ }
@@ -99,6 +116,14 @@ pub fn release(pool: &mut [u8], descriptors: &mut [u16], slot: u16)
     let from = start_of(slot);
     wipe_octets(&mut pool[from..from + 280]);
     describe(descriptors, slot, 32768, 0);
+}
+
+// The slot after `next`, round the ring of k slots.
+fn next_slot(k: u16, next: u16) -> u16
+    requires { ⌜ next < 65535 ⌝ }
+    ensures { λ r. ⌜ r ≡ nextSlot k next ⌝ }
+{
+    if next + 1 == k { 0 } else { next + 1 }
 }
 
 // Where a slot's octets begin in the pool.

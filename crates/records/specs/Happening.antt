@@ -2,9 +2,7 @@
 -- event bits and the records follow from the happenings.
 use Prim.Native.Nat.{ℕ}
 use mathlib.Core.Bool.{Bool, true, false}
-use mathlib.Core.List.{List, [], _∷_}
 use lib.Bits.{bitOr}
-use Rattle.bits.specs.Machine.{run}
 use Rattle.monitor.specs.declared.Alarm.{Alarm}
 use Rattle.monitor.specs.declared.Alarm.the-variants.{Nothing, Suer, Aerm}
 use Rattle.monitor.specs.declared.Limits.{Limits}

@@ -1,3 +1,4 @@
 -- Happenings, the monitor's part in them, and records.
 pub mod Happening
 pub mod Record
+pub mod Promises

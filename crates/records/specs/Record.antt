@@ -1,6 +1,6 @@
 -- "Sixteen octets each, no header, low octet first".
 use Prim.Native.Nat.{ℕ, _/_, _%_}
-use mathlib.Core.Bool.{Bool, true, false}
+use mathlib.Core.Bool.{Bool}
 use mathlib.Core.List.{List, [], _∷_, _++_}
 use Rattle.bits.specs.Octets.{worth}
 use Rattle.bits.specs.Machine.{run, outs}

@@ -3,13 +3,13 @@ use monitor::Alarm;
 use monitor::Limits;
 use monitor::Monitor;
 ghost use mathlib.Core.Path.{_≡_};
-ghost use mathlib.Core.List.{List, [], _∷_};
-ghost use Prim.Native.Nat.{ℕ, _+_, _*_, _/_, _%_, _≤_, _<_};
+ghost use mathlib.Core.List.{[], _∷_, _++_};
+ghost use Prim.Native.Nat.{_+_, _*_, _≤_, _<_};
 ghost use Rattle.bits.specs.Octets.{worth};
 ghost use lib.ListN.{length};
 ghost use lib.Seq.{sets};
 ghost use Rattle.records.specs.Happening.{alarmBit, noted};
-ghost use Rattle.records.specs.Record.{recordOf};
+ghost use Rattle.records.specs.Record.{low-high, recordOf};
 
 // One thing that happens: its record's kind, whether a unit was lost for want of a slot, the unit's length and first five octets, the
 // good count then, whether the monitors take it as an event and as an errored one, and the event bits that it sets by itself.
@@ -84,15 +84,37 @@ pub fn write_record(records: &mut [u8], n: usize, h: Happening, count: u16, rais
 {
     let at = 16 * n;
     let first = h.first;
-    records[at] = h.kind;
-    records[at + 1] = one_if(h.lost);
-    put_word(&mut *records, at + 2, h.length);
+    put_numbers(&mut *records, at, h.kind, h.lost, h.length, count, h.good);
+    put_octets(&mut *records, at + 8, first, raised);
+}
+
+// The first eight octets of a record.
+fn put_numbers(
+    records: &mut [u8],
+    at: usize,
+    kind: u8,
+    lost: bool,
+    octets: u16,
+    count: u16,
+    good: u16,
+)
+    requires { ⌜ at + 8 ≤ length (now records) ⌝ }
+    ensures { λ _. ⌜ now (records .exit) ≡ sets (now (records .entry)) at ((kind ∷ worth lost ∷ []) ++ (low-high octets ++ (low-high count ++ low-high good))) ⌝ }
+{
+    put_pair(&mut *records, at, kind, one_if(lost));
+    put_word(&mut *records, at + 2, octets);
     put_word(&mut *records, at + 4, count);
-    put_word(&mut *records, at + 6, h.good);
-    put_first(&mut *records, at + 8, first);
-    records[at + 13] = one_if(raised);
-    records[at + 14] = 0;
-    records[at + 15] = 0;
+    put_word(&mut *records, at + 6, good);
+}
+
+// The last eight octets of a record.
+fn put_octets(records: &mut [u8], at: usize, first: [u8; 5], raised: bool)
+    requires { ⌜ at + 8 ≤ length (now records) ⌝ }
+    ensures { λ _. ⌜ now (records .exit) ≡ sets (now (records .entry)) at (first ++ (worth raised ∷ 0 ∷ 0 ∷ [])) ⌝ }
+{
+    put_first(&mut *records, at, first);
+    put_pair(&mut *records, at + 5, one_if(raised), 0);
+    records[at + 7] = 0;
 }
 
 // One for true, zero for false.
@@ -105,10 +127,18 @@ fn one_if(b: bool) -> u8
 // A word at a place, low octet first.
 fn put_word(records: &mut [u8], at: usize, word: u16)
     requires { ⌜ at + 2 ≤ length (now records) ⌝ }
-    ensures { λ _. ⌜ now (records .exit) ≡ sets (now (records .entry)) at (word % 256 ∷ word / 256 ∷ []) ⌝ }
+    ensures { λ _. ⌜ now (records .exit) ≡ sets (now (records .entry)) at (low-high word) ⌝ }
 {
-    records[at] = (word % 256) as u8;
-    records[at + 1] = (word / 256) as u8;
+    put_pair(&mut *records, at, (word % 256) as u8, (word / 256) as u8);
+}
+
+// Two octets at a place.
+fn put_pair(records: &mut [u8], at: usize, one: u8, two: u8)
+    requires { ⌜ at + 2 ≤ length (now records) ⌝ }
+    ensures { λ _. ⌜ now (records .exit) ≡ sets (now (records .entry)) at (one ∷ two ∷ []) ⌝ }
+{
+    records[at] = one;
+    records[at + 1] = two;
 }
 
 // Five octets at a place.

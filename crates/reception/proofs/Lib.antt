@@ -1,0 +1,4 @@
+-- The laws of the receiver's path.
+pub mod Recording
+pub mod Findings
+pub mod Ends

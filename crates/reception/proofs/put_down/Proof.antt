@@ -1,0 +1,32 @@
+-- `reception::put_down` meets its contract: what the monitor notes is what is recorded.
+use Rattle.reception.proofs.Recording.{put-down-way}
+use Rattle.reception.specs.Line.{limitsOf}
+use Rattle.records.proofs.Range.{range-takes}
+use borrow.Author.Needs.{needs}
+use Rattle.reception.proofs.put_down.Statement.{statement}
+use Rattle.reception.proofs.put_down.Tie as tie
+
+note-requires : tie.Need-note-requires
+note-requires c κs =
+    let s = c .before .before in
+    range-takes (limitsOf (s .args .s)) (s .args .watch .monitor) (s .pre .0) (s .pre .1)
+
+write-record-requires : tie.Need-write-record-requires
+write-record-requires c κs = search needs
+
+add-t15 : tie.Need-add-t15
+add-t15 c = search needs
+
+same-length : tie.Need-same-length
+same-length c = search needs
+
+returns : tie.Need-returns
+returns c =
+    let d = c .before .before .before in
+    let n = d .before .before .before .before in
+    let a = n .before .before .before .args in
+    put-down-way (a .s) (a .taken) (a .watch) (a .count) (a .out .now) (n .note .result) (d .write-record .last .0) (n .note .ensures) (d .write-record .ensures)
+
+pub put-down-spec : {M : Type 1} → statement M
+put-down-spec =
+    tie.close (tie.spec note-requires write-record-requires add-t15 same-length returns)

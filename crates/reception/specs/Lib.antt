@@ -1,0 +1,3 @@
+-- The receiver's path from line octets to records.
+pub mod Line
+pub mod Writing

@@ -1,0 +1,93 @@
+-- What is promised of happenings and their records. The proofs are in proofs/Watching.antt and proofs/Range.antt.
+use Prim.Native.Nat.{ℕ, _+_, _*_, _≤_, _<_}
+use mathlib.Core.Path.{_≡_}
+use mathlib.Core.Bool.{Bool, false}
+use mathlib.Core.List.{List, [], _∷_, _++_}
+use lib.ListN.{length, getD, take, drop}
+use lib.Seq.{sets}
+use Rattle.bits.specs.Octets.{worth}
+use Rattle.monitor.specs.declared.Mode.{Mode}
+use Rattle.monitor.specs.declared.Mode.the-variants.{Off, Failure, Alignment, Idle}
+use Rattle.monitor.specs.declared.Monitor.{Monitor}
+use Rattle.monitor.specs.declared.Limits.{Limits}
+use Rattle.records.specs.declared.Happening.{Happening}
+use Rattle.records.specs.declared.Watch.{Watch}
+use Rattle.records.specs.Happening.{noted}
+use Rattle.records.specs.Record.{low-high, recordOf, watched, recorded, watchAfter, recordsOf}
+
+-- ---- One record
+-- each happening shows five octets, as its type in the code has it
+pub data FirstFive : List Happening → Type 0 where
+  none : FirstFive []
+  more : {h : Happening} {hs : List Happening} → length (h .first) ≡ 5 → FirstFive hs → FirstFive (h ∷ hs)
+
+-- "Sixteen octets each"
+abbrev pub SixteenOctets : Type 0
+SixteenOctets = (h : Happening) (count : ℕ) (raised : Bool) → length (h .first) ≡ 5 → length (recordOf h count raised) ≡ 16
+
+-- "13 one if this event raised SUER or AERM"
+abbrev pub OctetThirteen : Type 0
+OctetThirteen =
+    (h : Happening) (count : ℕ) (raised : Bool) → length (h .first) ≡ 5 → getD (recordOf h count raised) 13 0 ≡ worth raised
+
+-- "4-5 monitor count after it"
+abbrev pub CountAfter : Type 0
+CountAfter =
+    (l : Limits) (w : Watch) (h : Happening) → take 2 (drop 4 (recorded l w h)) ≡ low-high (watched l w h .monitor .count)
+
+-- A happening that is no event leaves the monitor as it is and raises nothing.
+abbrev pub NoEvent : Type 0
+NoEvent =
+    (l : Limits) (w : Watch) (h : Happening) → h .event ≡ false
+    → (watched l w h .monitor ≡ w .monitor) × (noted l w h .raised ≡ false)
+
+-- ---- Records in a row
+-- Happenings that come in two parts are watched and recorded as one list.
+abbrev pub WatchAppend : Type 0
+WatchAppend = (l : Limits) (w : Watch) (xs ys : List Happening) → watchAfter l w (xs ++ ys) ≡ watchAfter l (watchAfter l w xs) ys
+
+abbrev pub RecordsAppend : Type 0
+RecordsAppend =
+    (l : Limits) (w : Watch) (xs ys : List Happening)
+    → recordsOf l w (xs ++ ys) ≡ recordsOf l w xs ++ recordsOf l (watchAfter l w xs) ys
+
+abbrev pub RecordsLength : Type 0
+RecordsLength = (l : Limits) (w : Watch) (hs : List Happening) → FirstFive hs → length (recordsOf l w hs) ≡ 16 * length hs
+
+-- One record written at its place, then those after it, is all of them written there.
+abbrev pub RecordByRecord : Type 0
+RecordByRecord =
+    (l : Limits) (w : Watch) (h : Happening) (hs : List Happening) (out : List ℕ) (n : ℕ) → length (h .first) ≡ 5
+    → sets (sets out (16 * n) (recorded l w h)) (16 * (n + 1)) (recordsOf l (watched l w h) hs) ≡ sets out (16 * n) (recordsOf l w (h ∷ hs))
+
+-- ---- Numbers in range
+-- T, D and A, each 1 to 1,024
+pub record LimitsInRange (l : Limits) : Type 0 where
+  pub t-low : 1 ≤ l .t
+  pub t-high : l .t ≤ 1024
+  pub d-low : 1 ≤ l .d
+  pub d-high : l .d ≤ 1024
+  pub a-low : 1 ≤ l .a
+  pub a-high : l .a ≤ 1024
+
+-- "monitor count T or more in failure mode, A or more in alignment mode, above 1,024 when idle or off" is out of range
+abbrev pub countInRange : Limits → Mode → ℕ → Type 0
+countInRange l Failure c = c < l .t
+countInRange l Alignment c = c < l .a
+countInRange l Idle c = c ≤ 1024
+countInRange l Off c = c ≤ 1024
+
+-- "event number D or more" is out of range
+pub record MonitorInRange (l : Limits) (m : Monitor) : Type 0 where
+  pub number : m .number < l .d
+  pub count : countInRange l (m .mode) (m .count)
+
+-- A happening leaves a monitor in range in range,
+abbrev pub StaysInRange : Type 0
+StaysInRange =
+    (l : Limits) (w : Watch) (h : Happening) → LimitsInRange l → MonitorInRange l (w .monitor)
+    → MonitorInRange l (watched l w h .monitor)
+
+-- and a monitor in range is one that can take a happening.
+abbrev pub RangeTakes : Type 0
+RangeTakes = (l : Limits) (m : Monitor) → LimitsInRange l → MonitorInRange l m → (m .count < 65535) × (m .number < 65535)

@@ -1,0 +1,4 @@
+-- The laws of the desk.
+pub mod FirstFive
+pub mod Ways
+pub mod Closing

@@ -1,0 +1,86 @@
+-- The ways of a closed unit that is an event, over plain values: handed over, dropped or lost.
+use Prim.Native.Nat.{ℕ, _≤_}
+use mathlib.Core.Path.{_≡_, refl, sym, ap, _∙_}
+use mathlib.Core.Bool.{Bool, true, false, _||_}
+use mathlib.Core.List.{List, [], _∷_}
+use native.Mathlib.Omega.{arith}
+use lib.Dec.{eqb}
+use lib.ListN.{length, take}
+use lib.Seq.{length-take-le}
+use Rattle.filter.specs.declared.Fate.{Fate}
+use Rattle.filter.specs.declared.Fate.the-variants.{HandedOver, Dropped, Lost}
+use Rattle.filter.specs.declared.Settled.{Settled}
+use Rattle.filter.specs.Memory.{settled}
+use Rattle.memory.specs.Lent.{statusOf, withSlot, withDescriptor, filled, nextSlot}
+use Rattle.board.specs.declared.Settings.{Settings}
+use Rattle.board.specs.declared.Counting.{Counting}
+use Rattle.board.specs.declared.Counts.{Counts}
+use Rattle.records.specs.declared.Happening.{Happening}
+use Rattle.units.specs.declared.Desk.{Desk}
+use Rattle.units.specs.Desk.{Office, office, served, deskOf, begins, firstFive, isFree, goodCounts, overCounts, droppedCounts, lostCounts, goodUnit, erroredUnit}
+use Rattle.units.proofs.FirstFive.{five-take}
+
+-- what the code says of such a unit
+abbrev heard : ℕ → Bool → ℕ → List ℕ → ℕ → Bool → ℕ → Happening
+heard kind lost count first good errored bits =
+    record { kind = kind; lost = lost; length = count; first = first; good = good; event = true; errored = errored; bits = bits }
+
+module _ (s : Settings) (desk : Desk) (pool descriptors area : List ℕ) (count : ℕ) (h : count ≤ 278) (l : length area ≡ 279)
+    {first : List ℕ} (f : first ≡ firstFive (take count area))
+    {free : Bool} (e : free ≡ eqb (statusOf descriptors (desk .slots .next)) 32768) where
+  abbrev before : Office
+  before = office desk pool descriptors
+
+  unit-length : length (take count area) ≡ count
+  unit-length = length-take-le count area (omega arith)
+
+  -- ---- a unit with an error
+  pub errored-over : (status kind : ℕ) {next : ℕ} {p d : List ℕ} → free ≡ true → next ≡ nextSlot (s .k) (desk .slots .next)
+      → p ≡ withSlot pool (desk .slots .next) (filled (take count area)) → d ≡ withDescriptor descriptors (desk .slots .next) status count
+      → served (office (deskOf (desk .counting) (desk .memory) next (desk .counts)) p d) (heard kind false count first (desk .counts .good) true 1 ∷ [])
+      ≡ erroredUnit s before status kind (take count area)
+  unfolding erroredUnit
+  errored-over status kind t n p d =
+      let w : eqb (statusOf descriptors (desk .slots .next)) 32768 ≡ true = sym e ∙ t in
+      rw w (cc unit-length)
+
+  pub errored-lost : (status kind : ℕ) → free ≡ false
+      → served (office (deskOf (begins (s .orn) (desk .counting)) (desk .memory) (desk .slots .next) (desk .counts)) pool descriptors)
+      (heard kind true count first (desk .counts .good) true 2 ∷ [])
+      ≡ erroredUnit s before status kind (take count area)
+  unfolding erroredUnit
+  errored-lost status kind t =
+      let w : eqb (statusOf descriptors (desk .slots .next)) 32768 ≡ false = sym e ∙ t in
+      rw w (cc unit-length)
+
+  -- ---- a good unit
+  module _ (five : 5 ≤ count) {st : Settled}
+      (t : (u : List ℕ) → length u ≡ count → take 5 u ≡ first → st ≡ settled (s .filter) (s .mask) (desk .memory) u free)
+      {counts : Counts} (n : counts ≡ goodCounts (desk .counts)) where
+    told : settled (s .filter) (s .mask) (desk .memory) (take count area) (isFree before) ≡ st
+    told =
+        ap (settled (s .filter) (s .mask) (desk .memory) (take count area)) (sym e)
+        ∙ sym (t (take count area) unit-length (five-take (take count area) (omega (arith, unit-length)) ∙ sym f))
+
+    abbrev off : Counting
+    off = record { on = false; left = desk .counting .left }
+
+    pub good-over : {next : ℕ} {p d : List ℕ} {over : Counts} → st .fate ≡ HandedOver → next ≡ nextSlot (s .k) (desk .slots .next)
+        → p ≡ withSlot pool (desk .slots .next) (filled (take count area)) → d ≡ withDescriptor descriptors (desk .slots .next) 0 count
+        → over ≡ overCounts counts
+        → served (office (deskOf off (st .memory) next over) p d) (heard 0 false count first (counts .good) false 1 ∷ [])
+        ≡ goodUnit s before (take count area)
+    unfolding goodUnit
+    good-over g a p d o = rw (told, g) (cc unit-length)
+
+    pub good-dropped : {dropped : Counts} → st .fate ≡ Dropped → dropped ≡ droppedCounts counts
+        → served (office (deskOf off (st .memory) (desk .slots .next) dropped) pool descriptors) (heard 1 false count first (counts .good) false 0 ∷ [])
+        ≡ goodUnit s before (take count area)
+    unfolding goodUnit
+    good-dropped g o = rw (told, g) (cc unit-length)
+
+    pub good-lost : {lost : Counts} → st .fate ≡ Lost → lost ≡ lostCounts counts
+        → served (office (deskOf (begins (s .orn) off) (st .memory) (desk .slots .next) lost) pool descriptors) (heard 2 true count first (counts .good) false 2 ∷ [])
+        ≡ goodUnit s before (take count area)
+    unfolding goodUnit
+    good-lost g o = rw (told, g) (cc unit-length)

@@ -1,0 +1,13 @@
+-- `units::count_over` meets its contract: one count is one more, and goes round.
+use borrow.Author.Needs.{needs}
+use Rattle.units.proofs.count_over.Statement.{statement}
+use Rattle.units.proofs.count_over.Tie as tie
+
+wrapping-add-u16-requires : tie.Need-wrapping-add-u16-requires
+wrapping-add-u16-requires c κs = search needs
+
+returns : tie.Need-returns
+returns c = cc
+
+pub count-over-spec : {M : Type 1} → statement M
+count-over-spec = tie.close (tie.spec wrapping-add-u16-requires returns)

@@ -1,0 +1,112 @@
+-- `units::good_unit` meets its contract: the unit goes the way that the filter settles.
+use native.Mathlib.Omega.{arith}
+use borrow.Author.Needs.{needs}
+use denote.Ref.{now}
+use Rattle.units.proofs.Ways.{good-over, good-dropped, good-lost}
+use Rattle.units.proofs.good_unit.Statement.{statement}
+use Rattle.units.proofs.good_unit.Tie as tie
+
+is-free-requires : tie.Need-is-free-requires
+is-free-requires c κs = search needs
+
+first-five-requires : tie.Need-first-five-requires
+first-five-requires c κs = search needs
+
+settle-requires : tie.Need-settle-requires
+settle-requires c κs = search needs
+
+count-good-requires : tie.Need-count-good-requires
+count-good-requires c κs = search needs
+
+enum-told : tie.Need-enum-told
+enum-told c = search needs
+
+store-next-requires : tie.Need-store-next-requires
+store-next-requires c κs =
+    let s = c .before .before .before .before .before .before .before .before .before .before .before .before .before .before in
+    (omega (arith, s .pre), omega (arith, s .pre), omega (arith, s .pre))
+
+count-over-requires : tie.Need-count-over-requires
+count-over-requires c κs = search needs
+
+enum-told-2 : tie.Need-enum-told-2
+enum-told-2 c = search needs
+
+count-dropped-requires : tie.Need-count-dropped-requires
+count-dropped-requires c κs = search needs
+
+enum-told-3 : tie.Need-enum-told-3
+enum-told-3 c = search needs
+
+count-lost-requires : tie.Need-count-lost-requires
+count-lost-requires c κs = search needs
+
+same-length : tie.Need-same-length
+same-length c = search needs
+
+same-length-2 : tie.Need-same-length-2
+same-length-2 c = search needs
+
+returns : tie.Need-returns
+returns c =
+    let n = c .before .before .before .before .before in
+    let m = n .before .before .before in
+    let g = m .before .before in
+    let q = g .before .before in
+    let f = q .before .before .before in
+    let s = f .before .before .before .before .before in
+    let a = s .args in
+    good-over (a .s) (a .desk) (now (a .pool)) (now (a .descriptors)) (now (a .area)) (a .count) (s .pre .1 .1) (s .pre .1 .2) (f .first-five .ensures)
+    (f .before .is-free .ensures) (s .pre .1 .0) (q .settle .ensures) (g .count-good .ensures) (m .enum-told .given .1) (n .store-next .ensures .0)
+    (n .store-next .ensures .1) (n .store-next .ensures .2) (c .count-over .ensures)
+
+same-length-3 : tie.Need-same-length-3
+same-length-3 c = search needs
+
+returns-2 : tie.Need-returns-2
+returns-2 c =
+    let m = c .before in
+    let g = m .before .before in
+    let q = g .before .before in
+    let f = q .before .before .before in
+    let s = f .before .before .before .before .before in
+    let a = s .args in
+    good-dropped (a .s) (a .desk) (now (a .pool)) (now (a .descriptors)) (now (a .area)) (a .count) (s .pre .1 .1) (s .pre .1 .2) (f .first-five .ensures)
+    (f .before .is-free .ensures) (s .pre .1 .0) (q .settle .ensures) (g .count-good .ensures) (m .enum-told2 .given .1) (c .count-dropped .ensures)
+
+same-length-4 : tie.Need-same-length-4
+same-length-4 c = search needs
+
+returns-3 : tie.Need-returns-3
+returns-3 c =
+    let m = c .before .before in
+    let g = m .before .before in
+    let q = g .before .before in
+    let f = q .before .before .before in
+    let s = f .before .before .before .before .before in
+    let a = s .args in
+    good-lost (a .s) (a .desk) (now (a .pool)) (now (a .descriptors)) (now (a .area)) (a .count) (s .pre .1 .1) (s .pre .1 .2) (f .first-five .ensures)
+    (f .before .is-free .ensures) (s .pre .1 .0) (q .settle .ensures) (g .count-good .ensures) (m .enum-told3 .given .1) (c .before .count-lost .ensures)
+
+pub good-unit-spec : {M : Type 1} → statement M
+good-unit-spec =
+    tie.close
+    (tie.spec
+    is-free-requires
+    first-five-requires
+    settle-requires
+    count-good-requires
+    enum-told
+    store-next-requires
+    count-over-requires
+    enum-told-2
+    count-dropped-requires
+    enum-told-3
+    count-lost-requires
+    same-length
+    same-length-2
+    returns
+    same-length-3
+    returns-2
+    same-length-4
+    returns-3)
