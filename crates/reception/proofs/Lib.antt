@@ -2,3 +2,4 @@
 pub mod Recording
 pub mod Findings
 pub mod Ends
+pub mod Octets

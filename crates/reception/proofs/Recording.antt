@@ -87,14 +87,14 @@ module _ (s : Settings) (w : Written) where
           ap₂ (λ (x : Progress) (y : List ℕ). holding x pool descriptors y) ep
           (eo ∙ ap (sets (w .out) (16 * w .count)) (sym (single-record l (w .watch) h)))
           ∙ ap {B = Written}
-            (λ (x : Watch).
-            record {
-              office = office (taken .desk) pool descriptors;
-              watch = x;
-              out = sets (w .out) (16 * w .count) (recordsOf l (w .watch) (h ∷ []));
-              count = w .count + 1;
-            })
-            (sym (single-watch l (w .watch) h))
+          (λ (x : Watch).
+          record {
+            office = office (taken .desk) pool descriptors;
+            watch = x;
+            out = sets (w .out) (16 * w .count) (recordsOf l (w .watch) (h ∷ []));
+            count = w .count + 1;
+          })
+          (sym (single-watch l (w .watch) h))
 
   -- a mark from which nothing happens
   pub mark-quiet : (m : Mark) (o : Office) → served o [] ≡ serves s (w .office) m
@@ -103,14 +103,14 @@ module _ (s : Settings) (w : Written) where
   mark-quiet m o e =
       ap {B = Written} (λ (n : ℕ). record { office = o; watch = w .watch; out = w .out; count = n }) (sym (add-zero (w .count)))
       ∙ ap {B = Written}
-        (λ (x : Served).
-        record {
-          office = x .office;
-          watch = watchAfter (limitsOf s) (w .watch) (x .happenings ++ []);
-          out = sets (w .out) (16 * w .count) (recordsOf (limitsOf s) (w .watch) (x .happenings ++ []));
-          count = w .count + length (x .happenings ++ []);
-        })
-        e
+      (λ (x : Served).
+      record {
+        office = x .office;
+        watch = watchAfter (limitsOf s) (w .watch) (x .happenings ++ []);
+        out = sets (w .out) (16 * w .count) (recordsOf (limitsOf s) (w .watch) (x .happenings ++ []));
+        count = w .count + length (x .happenings ++ []);
+      })
+      e
 
   -- marks that come in two parts
   pub marks-append : (ms ns : List Mark) → FirstFive (happenings s (w .office) ms) → marksDone s w (ms ++ ns) ≡ marksDone s (marksDone s w ms) ns
@@ -134,18 +134,18 @@ module _ (s : Settings) (w : Written) where
       parts : (xs ys : List Happening) → FirstFive xs
           → done (officeAfter s (officeAfter s (w .office) ms) ns) (xs ++ ys)
           ≡ record {
-              office = officeAfter s (officeAfter s (w .office) ms) ns;
-              watch = watchAfter l (watchAfter l (w .watch) xs) ys;
-              out = sets (sets (w .out) (16 * w .count) (recordsOf l (w .watch) xs)) (16 * (w .count + length xs)) (recordsOf l (watchAfter l (w .watch) xs) ys);
-              count = w .count + length xs + length ys;
-            }
+            office = officeAfter s (officeAfter s (w .office) ms) ns;
+            watch = watchAfter l (watchAfter l (w .watch) xs) ys;
+            out = sets (sets (w .out) (16 * w .count) (recordsOf l (w .watch) xs)) (16 * (w .count + length xs)) (recordsOf l (watchAfter l (w .watch) xs) ys);
+            count = w .count + length xs + length ys;
+          }
       parts xs ys g =
           let c : w .count + length (xs ++ ys) ≡ w .count + length xs + length ys = omega (arith, length-append xs ys) in
           let k : 16 * w .count + length (recordsOf l (w .watch) xs) ≡ 16 * (w .count + length xs) = omega (arith, records-length l (w .watch) xs g) in
           let o : sets (w .out) (16 * w .count) (recordsOf l (w .watch) (xs ++ ys))
-              ≡ sets (sets (w .out) (16 * w .count) (recordsOf l (w .watch) xs)) (16 * (w .count + length xs)) (recordsOf l (watchAfter l (w .watch) xs) ys) =
-              ap (sets (w .out) (16 * w .count)) (records-append l (w .watch) xs ys)
-              ∙ sets-append (recordsOf l (w .watch) xs) (recordsOf l (watchAfter l (w .watch) xs) ys) (w .out) (16 * w .count)
-              ∙ ap (λ (j : ℕ). sets (sets (w .out) (16 * w .count) (recordsOf l (w .watch) xs)) j (recordsOf l (watchAfter l (w .watch) xs) ys)) k in
+          ≡ sets (sets (w .out) (16 * w .count) (recordsOf l (w .watch) xs)) (16 * (w .count + length xs)) (recordsOf l (watchAfter l (w .watch) xs) ys) =
+          ap (sets (w .out) (16 * w .count)) (records-append l (w .watch) xs ys)
+          ∙ sets-append (recordsOf l (w .watch) xs) (recordsOf l (watchAfter l (w .watch) xs) ys) (w .out) (16 * w .count)
+          ∙ ap (λ (j : ℕ). sets (sets (w .out) (16 * w .count) (recordsOf l (w .watch) xs)) j (recordsOf l (watchAfter l (w .watch) xs) ys)) k in
           let v : watchAfter l (w .watch) (xs ++ ys) ≡ watchAfter l (watchAfter l (w .watch) xs) ys = watch-append l (w .watch) xs ys in
           λ i. record { office = officeAfter s (officeAfter s (w .office) ms) ns; watch = v i; out = o i; count = c i }

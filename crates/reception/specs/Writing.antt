@@ -50,7 +50,7 @@ pub record PutDown (s : Settings) (taken : Taken) (w : Watch) (count : ℕ) (out
 
 -- what the code needs between two marks: limits and monitor in range, memory that fits, and room for one record
 pub record Able (s : Settings) (p : Progress) (pool descriptors out : List ℕ) : Type 0 where
-  pub longest : s .m ≤ 278
+  pub longest : (7 ≤ s .m) × (s .m ≤ 278)
   pub limits : LimitsInRange (limitsOf s)
   pub monitor : MonitorInRange (limitsOf s) (p .watch .monitor)
   pub fits : Fits s (p .desk) pool descriptors

@@ -158,7 +158,15 @@ pub fn take_octet(
         rest = fed.octet;
         left = fed.left;
         let found = step.found;
-        q = take_found(s, q, found, &mut *area, &mut *pool, &mut *descriptors, &mut *out);
+        q = take_found(
+            s,
+            q,
+            found,
+            &mut *area,
+            &mut *pool,
+            &mut *descriptors,
+            &mut *out,
+        );
     }
     let done = end_octet(s, q, &mut *out);
     Passed {

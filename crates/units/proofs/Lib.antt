@@ -2,3 +2,4 @@
 pub mod FirstFive
 pub mod Ways
 pub mod Closing
+pub mod Desks

@@ -25,6 +25,11 @@ abbrev heard : ℕ → Bool → ℕ → List ℕ → ℕ → Bool → ℕ → Ha
 heard kind lost count first good errored bits =
     record { kind = kind; lost = lost; length = count; first = first; good = good; event = true; errored = errored; bits = bits }
 
+-- a switch alone, where octet counting was off
+alone : (b : Bool) → b ≡ (b || false)
+alone true = refl
+alone false = refl
+
 module _ (s : Settings) (desk : Desk) (pool descriptors area : List ℕ) (count : ℕ) (h : count ≤ 278) (l : length area ≡ 279)
     {first : List ℕ} (f : first ≡ firstFive (take count area))
     {free : Bool} (e : free ≡ eqb (statusOf descriptors (desk .slots .next)) 32768) where
@@ -35,21 +40,21 @@ module _ (s : Settings) (desk : Desk) (pool descriptors area : List ℕ) (count 
   unit-length = length-take-le count area (omega arith)
 
   -- ---- a unit with an error
-  pub errored-over : (status kind : ℕ) {next : ℕ} {p d : List ℕ} → free ≡ true → next ≡ nextSlot (s .k) (desk .slots .next)
+  pub errored-over : (status kind : ℕ) {next : ℕ} {p d : List ℕ} {x : Desk} {y : Happening} → free ≡ true → next ≡ nextSlot (s .k) (desk .slots .next)
       → p ≡ withSlot pool (desk .slots .next) (filled (take count area)) → d ≡ withDescriptor descriptors (desk .slots .next) status count
-      → served (office (deskOf (desk .counting) (desk .memory) next (desk .counts)) p d) (heard kind false count first (desk .counts .good) true 1 ∷ [])
-      ≡ erroredUnit s before status kind (take count area)
+      → x ≡ deskOf (desk .counting) (desk .memory) next (desk .counts) → y ≡ heard kind false count first (desk .counts .good) true 1
+      → served (office x p d) (y ∷ []) ≡ erroredUnit s before status kind (take count area)
   unfolding erroredUnit
-  errored-over status kind t n p d =
+  errored-over status kind t n p d x y =
       let w : eqb (statusOf descriptors (desk .slots .next)) 32768 ≡ true = sym e ∙ t in
       rw w (cc unit-length)
 
-  pub errored-lost : (status kind : ℕ) → free ≡ false
-      → served (office (deskOf (begins (s .orn) (desk .counting)) (desk .memory) (desk .slots .next) (desk .counts)) pool descriptors)
-      (heard kind true count first (desk .counts .good) true 2 ∷ [])
-      ≡ erroredUnit s before status kind (take count area)
+  pub errored-lost : (status kind : ℕ) {x : Desk} {y : Happening} → free ≡ false
+      → x ≡ deskOf (begins (s .orn) (desk .counting)) (desk .memory) (desk .slots .next) (desk .counts)
+      → y ≡ heard kind true count first (desk .counts .good) true 2
+      → served (office x pool descriptors) (y ∷ []) ≡ erroredUnit s before status kind (take count area)
   unfolding erroredUnit
-  errored-lost status kind t =
+  errored-lost status kind t x y =
       let w : eqb (statusOf descriptors (desk .slots .next)) 32768 ≡ false = sym e ∙ t in
       rw w (cc unit-length)
 
@@ -62,25 +67,24 @@ module _ (s : Settings) (desk : Desk) (pool descriptors area : List ℕ) (count 
         ap (settled (s .filter) (s .mask) (desk .memory) (take count area)) (sym e)
         ∙ sym (t (take count area) unit-length (five-take (take count area) (omega (arith, unit-length)) ∙ sym f))
 
-    abbrev off : Counting
-    off = record { on = false; left = desk .counting .left }
+    abbrev counted : Bool → Counting
+    counted on = record { on = on; left = desk .counting .left }
 
-    pub good-over : {next : ℕ} {p d : List ℕ} {over : Counts} → st .fate ≡ HandedOver → next ≡ nextSlot (s .k) (desk .slots .next)
+    pub good-over : {next : ℕ} {p d : List ℕ} {over : Counts} {x : Desk} {y : Happening} → st .fate ≡ HandedOver → next ≡ nextSlot (s .k) (desk .slots .next)
         → p ≡ withSlot pool (desk .slots .next) (filled (take count area)) → d ≡ withDescriptor descriptors (desk .slots .next) 0 count
-        → over ≡ overCounts counts
-        → served (office (deskOf off (st .memory) next over) p d) (heard 0 false count first (counts .good) false 1 ∷ [])
-        ≡ goodUnit s before (take count area)
+        → over ≡ overCounts counts → x ≡ deskOf (counted false) (st .memory) next over → y ≡ heard 0 false count first (counts .good) false 1
+        → served (office x p d) (y ∷ []) ≡ goodUnit s before (take count area)
     unfolding goodUnit
-    good-over g a p d o = rw (told, g) (cc unit-length)
+    good-over g a p d o x y = rw (told, g) (cc unit-length)
 
-    pub good-dropped : {dropped : Counts} → st .fate ≡ Dropped → dropped ≡ droppedCounts counts
-        → served (office (deskOf off (st .memory) (desk .slots .next) dropped) pool descriptors) (heard 1 false count first (counts .good) false 0 ∷ [])
-        ≡ goodUnit s before (take count area)
+    pub good-dropped : {dropped : Counts} {x : Desk} {y : Happening} → st .fate ≡ Dropped → dropped ≡ droppedCounts counts
+        → x ≡ deskOf (counted false) (st .memory) (desk .slots .next) dropped → y ≡ heard 1 false count first (counts .good) false 0
+        → served (office x pool descriptors) (y ∷ []) ≡ goodUnit s before (take count area)
     unfolding goodUnit
-    good-dropped g o = rw (told, g) (cc unit-length)
+    good-dropped g o x y = rw (told, g) (cc unit-length)
 
-    pub good-lost : {lost : Counts} → st .fate ≡ Lost → lost ≡ lostCounts counts
-        → served (office (deskOf (begins (s .orn) off) (st .memory) (desk .slots .next) lost) pool descriptors) (heard 2 true count first (counts .good) false 2 ∷ [])
-        ≡ goodUnit s before (take count area)
+    pub good-lost : {lost : Counts} {x : Desk} {y : Happening} → st .fate ≡ Lost → lost ≡ lostCounts counts
+        → x ≡ deskOf (counted (s .orn)) (st .memory) (desk .slots .next) lost → y ≡ heard 2 true count first (counts .good) false 2
+        → served (office x pool descriptors) (y ∷ []) ≡ goodUnit s before (take count area)
     unfolding goodUnit
-    good-lost g o = rw (told, g) (cc unit-length)
+    good-lost g o x y = rw (told, g) (cc (unit-length, alone (s .orn)))

@@ -2,3 +2,4 @@
 pub mod Marks
 pub mod Desk
 pub mod Fit
+pub mod Promises

@@ -15,7 +15,7 @@ ghost use lib.Dec.{eqb};
 ghost use lib.ListN.{length, take, getD};
 ghost use Rattle.bits.specs.Octets.{lineBits, packed};
 ghost use Rattle.memory.specs.Lent.{statusOf};
-ghost use Rattle.units.specs.Desk.{office, served, firstFive, begins, goodCounts, overCounts, droppedCounts, lostCounts, goodUnit, erroredUnit, shortTaken, closedUnit, broken, tickOf, pickℕ};
+ghost use Rattle.units.specs.Desk.{office, served, deskOf, firstFive, goodCounts, overCounts, droppedCounts, lostCounts, goodUnit, erroredUnit, shortTaken, closedUnit, broken, tickOf, pickℕ};
 ghost use Rattle.units.specs.Fit.{Fits};
 
 // The parts of the link that deal with units: octet counting, the filter's memory, the next slot, the counts.
@@ -100,6 +100,58 @@ fn count_lost(c: Counts) -> Counts
     n
 }
 
+// A desk of these parts.
+fn desk_of(on: bool, left: u16, memory: Memory, next: u16, counts: Counts) -> Desk
+    ensures { λ r. ⌜ r ≡ deskOf (record { on = on; left = left }) memory next counts ⌝ }
+{
+    Desk {
+        counting: Counting { on: on, left: left },
+        memory: memory,
+        slots: Slots { next: next },
+        counts: counts,
+    }
+}
+
+// A closed unit that is an event, errored or not.
+fn event_of(
+    kind: u8,
+    lost: bool,
+    count: u16,
+    first: [u8; 5],
+    good: u16,
+    errored: bool,
+    bits: u16,
+) -> Happening
+    ensures { λ r. ⌜ r ≡ record { kind = kind; lost = lost; length = count; first = first; good = good; event = true; errored = errored; bits = bits } ⌝ }
+{
+    Happening {
+        kind: kind,
+        lost: lost,
+        length: count,
+        first: first,
+        good: good,
+        event: true,
+        errored: errored,
+        bits: bits,
+    }
+}
+
+// What is no event.
+fn bare_of(kind: u8, count: u16, first: [u8; 5], good: u16, bits: u16) -> Happening
+    ensures { λ r. ⌜ r ≡ record { kind = kind; lost = false; length = count; first = first; good = good; event = false; errored = false; bits = bits } ⌝ }
+{
+    Happening {
+        kind: kind,
+        lost: false,
+        length: count,
+        first: first,
+        good: good,
+        event: false,
+        errored: false,
+        bits: bits,
+    }
+}
+
 // A good unit of `count` octets at the front of the area.
 pub fn good_unit(
     s: Settings,
@@ -126,84 +178,26 @@ pub fn good_unit(
     let good = counts.good;
     match fate {
         Fate::HandedOver => {
-            let after = memory::store_next(
-                &mut *pool,
-                &mut *descriptors,
-                next,
-                s.k,
-                area,
-                count,
-                0,
-            );
+            let k = s.k;
+            let after = memory::store_next(&mut *pool, &mut *descriptors, next, k, area, count, 0);
             let over = count_over(counts);
             Taken {
-                desk: Desk {
-                    counting: Counting {
-                        on: false,
-                        left: left,
-                    },
-                    memory: kept,
-                    slots: Slots { next: after },
-                    counts: over,
-                },
-                happening: Happening {
-                    kind: 0,
-                    lost: false,
-                    length: count,
-                    first: first,
-                    good: good,
-                    event: true,
-                    errored: false,
-                    bits: 1,
-                },
+                desk: desk_of(false, left, kept, after, over),
+                happening: event_of(0, false, count, first, good, false, 1),
             }
         }
         Fate::Dropped => {
             let dropped = count_dropped(counts);
             Taken {
-                desk: Desk {
-                    counting: Counting {
-                        on: false,
-                        left: left,
-                    },
-                    memory: kept,
-                    slots: Slots { next: next },
-                    counts: dropped,
-                },
-                happening: Happening {
-                    kind: 1,
-                    lost: false,
-                    length: count,
-                    first: first,
-                    good: good,
-                    event: true,
-                    errored: false,
-                    bits: 0,
-                },
+                desk: desk_of(false, left, kept, next, dropped),
+                happening: event_of(1, false, count, first, good, false, 0),
             }
         }
         Fate::Lost => {
             let lost = count_lost(counts);
             Taken {
-                desk: Desk {
-                    counting: Counting {
-                        on: s.orn | false,
-                        left: left,
-                    },
-                    memory: kept,
-                    slots: Slots { next: next },
-                    counts: lost,
-                },
-                happening: Happening {
-                    kind: 2,
-                    lost: true,
-                    length: count,
-                    first: first,
-                    good: good,
-                    event: true,
-                    errored: false,
-                    bits: 2,
-                },
+                desk: desk_of(s.orn, left, kept, next, lost),
+                happening: event_of(2, true, count, first, good, false, 2),
             }
         }
     }
@@ -231,54 +225,16 @@ pub fn errored_unit(
     let counts = desk.counts;
     let good = counts.good;
     if is_free(&*descriptors, next) {
-        let after = memory::store_next(
-            &mut *pool,
-            &mut *descriptors,
-            next,
-            s.k,
-            area,
-            count,
-            status,
-        );
+        let k = s.k;
+        let after = memory::store_next(&mut *pool, &mut *descriptors, next, k, area, count, status);
         return Taken {
-            desk: Desk {
-                counting: counting,
-                memory: memory,
-                slots: Slots { next: after },
-                counts: counts,
-            },
-            happening: Happening {
-                kind: kind,
-                lost: false,
-                length: count,
-                first: first,
-                good: good,
-                event: true,
-                errored: true,
-                bits: 1,
-            },
+            desk: desk_of(counting.on, counting.left, memory, after, counts),
+            happening: event_of(kind, false, count, first, good, true, 1),
         };
     }
     Taken {
-        desk: Desk {
-            counting: Counting {
-                on: s.orn | counting.on,
-                left: counting.left,
-            },
-            memory: memory,
-            slots: Slots { next: next },
-            counts: counts,
-        },
-        happening: Happening {
-            kind: kind,
-            lost: true,
-            length: count,
-            first: first,
-            good: good,
-            event: true,
-            errored: true,
-            bits: 2,
-        },
+        desk: desk_of(s.orn | counting.on, counting.left, memory, next, counts),
+        happening: event_of(kind, true, count, first, good, true, 2),
     }
 }
 
@@ -291,16 +247,7 @@ fn short_unit(desk: Desk, area: &[u8; 279], count: u16) -> Taken
     let good = desk.counts.good;
     Taken {
         desk: desk,
-        happening: Happening {
-            kind: 5,
-            lost: false,
-            length: count,
-            first: first,
-            good: good,
-            event: false,
-            errored: false,
-            bits: 0,
-        },
+        happening: bare_of(5, count, first, good, 0),
     }
 }
 
@@ -351,28 +298,12 @@ pub fn break_off(s: Settings, desk: Desk, kind: u8, bits: u16) -> Taken
 {
     let counting = desk.counting;
     let memory = desk.memory;
-    let slots = desk.slots;
     let counts = desk.counts;
+    let next = desk.slots.next;
+    let good = counts.good;
     Taken {
-        desk: Desk {
-            counting: Counting {
-                on: s.itu | counting.on,
-                left: counting.left,
-            },
-            memory: memory,
-            slots: slots,
-            counts: counts,
-        },
-        happening: Happening {
-            kind: kind,
-            lost: false,
-            length: 0,
-            first: [0; 5],
-            good: counts.good,
-            event: false,
-            errored: false,
-            bits: bits,
-        },
+        desk: desk_of(s.itu | counting.on, counting.left, memory, next, counts),
+        happening: bare_of(kind, 0, [0; 5], good, bits),
     }
 }
 

@@ -77,10 +77,11 @@ returns-2 c =
     let k = c .before .before .before .before .before in
     let q = c .before .before in
     let d = c .before .before .before .before .before .before .before .before .before .before .before .before .before .before .before .before .before in
-    let a = c .before .before .before .before .before .before .before .before .before .before .before .before .before .before .before .before .before .before .before .before .before .before .args in
-    (closed-way (a .s) (a .p) (a .found) (a .area .now) (a .pool .now) (a .descriptors .now) (a .out .now) (u .closed-unit .result) (u .closed-unit .last .1 .1 .1 .1 .0) (u .closed-unit .last .1 .1 .1 .1 .1 .0)
-    (q .put-down .result) (q .put-down .last .1 .1 .1 .1 .0) (q .put-down .ensures) (d .found .given .0 .0) (d .found .given .1) (u .closed-unit .ensures),
-    clear-area (a .found) (d .found .given .0 .0) (a .area .now) (k .clear .last .0) (d .found .given .1) (k .clear .ensures))
+    let a = c .before .before .before .before .before .before .before .before .before .before .before .before .before .before .before .before .before .before .before .before .before .before .args in (
+      closed-way (a .s) (a .p) (a .found) (a .area .now) (a .pool .now) (a .descriptors .now) (a .out .now) (u .closed-unit .result) (u .closed-unit .last .1 .1 .1 .1 .0) (u .closed-unit .last .1 .1 .1 .1 .1 .0)
+          (q .put-down .result) (q .put-down .last .1 .1 .1 .1 .0) (q .put-down .ensures) (d .found .given .0 .0) (d .found .given .1) (u .closed-unit .ensures),
+      clear-area (a .found) (d .found .given .0 .0) (a .area .now) (k .clear .last .0) (d .found .given .1) (k .clear .ensures),
+    )
 
 same-length-4 : tie.Need-same-length-4
 same-length-4 c = search needs
@@ -90,10 +91,11 @@ returns-3 c =
     let u = c .before .before .before .before .before in
     let q = c .before .before in
     let d = c .before .before .before .before .before .before .before in
-    let a = c .before .before .before .before .before .before .before .before .before .before .before .before .args in
-    (abort-way (a .s) (a .p) (a .found) (a .area .now) (a .pool .now) (a .descriptors .now) (a .out .now) (u .break-off .result) (a .pool .now) (a .descriptors .now)
-    (q .put-down2 .result) (q .put-down2 .last .1 .1 .1 .1 .0) (q .put-down2 .ensures) (d .enum-told2 .given .1) (u .break-off .ensures (a .pool .now) (a .descriptors .now)),
-    rw (d .enum-told2 .given .1))
+    let a = c .before .before .before .before .before .before .before .before .before .before .before .before .args in (
+      abort-way (a .s) (a .p) (a .found) (a .area .now) (a .pool .now) (a .descriptors .now) (a .out .now) (u .break-off .result) (a .pool .now) (a .descriptors .now)
+          (q .put-down2 .result) (q .put-down2 .last .1 .1 .1 .1 .0) (q .put-down2 .ensures) (d .enum-told2 .given .1) (u .break-off .ensures (a .pool .now) (a .descriptors .now)),
+      rw (d .enum-told2 .given .1),
+    )
 
 same-length-5 : tie.Need-same-length-5
 same-length-5 c = search needs
@@ -103,10 +105,11 @@ returns-4 c =
     let u = c .before .before .before .before .before in
     let q = c .before .before in
     let d = c .before .before .before .before .before .before .before in
-    let a = c .before .before .before .before .before .before .before .before .before .before .before .before .args in
-    (long-way (a .s) (a .p) (a .found) (a .area .now) (a .pool .now) (a .descriptors .now) (a .out .now) (u .break-off2 .result) (a .pool .now) (a .descriptors .now)
-    (q .put-down3 .result) (q .put-down3 .last .1 .1 .1 .1 .0) (q .put-down3 .ensures) (d .enum-told3 .given .1) (u .break-off2 .ensures (a .pool .now) (a .descriptors .now)),
-    rw (d .enum-told3 .given .1))
+    let a = c .before .before .before .before .before .before .before .before .before .before .before .before .args in (
+      long-way (a .s) (a .p) (a .found) (a .area .now) (a .pool .now) (a .descriptors .now) (a .out .now) (u .break-off2 .result) (a .pool .now) (a .descriptors .now)
+          (q .put-down3 .result) (q .put-down3 .last .1 .1 .1 .1 .0) (q .put-down3 .ensures) (d .enum-told3 .given .1) (u .break-off2 .ensures (a .pool .now) (a .descriptors .now)),
+      rw (d .enum-told3 .given .1),
+    )
 
 pub take-found-spec : {M : Type 1} → statement M
 take-found-spec =

@@ -1,25 +1,38 @@
 -- `units::closed_unit` meets its contract: each verdict leads to what is done with such a unit.
-use mathlib.Core.Path.{sym, _∙_}
+use Prim.Native.Nat.{_/_, _≤_}
+use mathlib.Core.Path.{_≡_, sym, _∙_}
 use native.Mathlib.Omega.{arith}
 use borrow.Author.Needs.{needs}
 use denote.Ref.{now}
+use lib.ListN.{length, take}
+use Rattle.bits.specs.Octets.{lineBits}
+use Rattle.bits.specs.Format.{basic}
+use Rattle.framing.specs.declared.Verdict.{Verdict}
+use Rattle.framing.specs.Verdict.{verdictOf}
 use Rattle.units.specs.Desk.{office}
 use Rattle.units.proofs.Closing.{area-length, good-octets, closed-short, closed-not-whole, closed-wrong, closed-good}
 use Rattle.units.proofs.closed_unit.Statement.{statement}
 use Rattle.units.proofs.closed_unit.Tie as tie
 
+-- the area has 279 octets, and the unit's whole octets are at most 278
+sized : (s : tie.Start) → length (now (s .args .area)) ≡ 279
+sized s = area-length (now (s .args .area)) (s .args .bits) (s .pre .1 .0) (s .pre .1 .1)
+
+held : (s : tie.Start) → (s .args .bits / 8 ≤ 278) × (length (now (s .args .area)) ≡ 279)
+held s = (omega (arith, s .pre .1 .0), sized s)
+
+-- the verdict on the unit, at an arm's variant
+judged : (v : tie.After-verdict) {x : Verdict} → v .verdict .result ≡ x → verdictOf basic (take (v .before .before .before .args .bits) (lineBits (now (v .before .before .before .args .area)))) ≡ x
+judged v e = sym (v .verdict .ensures) ∙ e
+
 verdict-requires : tie.Need-verdict-requires
-verdict-requires c κs =
-    let s = c .before .before in
-    (s .pre .1 .0, area-length (now (s .args .area)) (s .args .bits) (s .pre .1 .0) (s .pre .1 .1))
+verdict-requires c κs = let s = c .before .before in (s .pre .1 .0, sized s)
 
 enum-told : tie.Need-enum-told
 enum-told c = search needs
 
 short-unit-requires : tie.Need-short-unit-requires
-short-unit-requires c κs =
-    let s = c .before .before .before .before .before in
-    (omega (arith, s .pre .1 .0), area-length (now (s .args .area)) (s .args .bits) (s .pre .1 .0) (s .pre .1 .1))
+short-unit-requires c κs = held (c .before .before .before .before .before)
 
 enum-told-2 : tie.Need-enum-told-2
 enum-told-2 c = search needs
@@ -27,7 +40,7 @@ enum-told-2 c = search needs
 errored-unit-requires : tie.Need-errored-unit-requires
 errored-unit-requires c κs =
     let s = c .before .before .before .before .before .before .before in
-    (s .pre .0, (omega (arith, s .pre .1 .0), area-length (now (s .args .area)) (s .args .bits) (s .pre .1 .0) (s .pre .1 .1)))
+    (s .pre .0, held s)
 
 enum-told-3 : tie.Need-enum-told-3
 enum-told-3 c = search needs
@@ -35,7 +48,7 @@ enum-told-3 c = search needs
 errored-unit-requires-2 : tie.Need-errored-unit-requires-2
 errored-unit-requires-2 c κs =
     let s = c .before .before .before .before .before .before .before in
-    (s .pre .0, (omega (arith, s .pre .1 .0), area-length (now (s .args .area)) (s .args .bits) (s .pre .1 .0) (s .pre .1 .1)))
+    (s .pre .0, held s)
 
 enum-told-4 : tie.Need-enum-told-4
 enum-told-4 c = search needs
@@ -45,10 +58,8 @@ good-unit-requires c κs =
     let m = c .before .before in
     let v = m .before .before in
     let s = v .before .before .before in
-    let area = now (s .args .area) in
-    let is-good = sym (v .verdict .ensures) ∙ m .enum-told4 .given .1 in
-    let long = good-octets area (s .args .bits) (s .pre .1 .0) (s .pre .1 .1) is-good in
-    (s .pre .0, (long, omega (arith, s .pre .1 .0), area-length area (s .args .bits) (s .pre .1 .0) (s .pre .1 .1)))
+    let long = good-octets (now (s .args .area)) (s .args .bits) (s .pre .1 .0) (s .pre .1 .1) (judged v (m .enum-told4 .given .1)) in
+    (s .pre .0, (long, held s .0, sized s))
 
 returns : tie.Need-returns
 returns c =
@@ -57,7 +68,7 @@ returns c =
     let s = v .before .before .before in
     let a = s .args in
     closed-short (now (a .area)) (a .bits) (s .pre .1 .0) (s .pre .1 .1) (a .s) (office (a .desk) (now (a .pool)) (now (a .descriptors)))
-    (sym (v .verdict .ensures) ∙ m .enum-told .given .1) (c .short-unit .ensures)
+    (judged v (m .enum-told .given .1)) (c .short-unit .ensures)
 
 same-length : tie.Need-same-length
 same-length c = search needs
@@ -72,8 +83,8 @@ returns-2 c =
     let v = m .before .before in
     let s = v .before .before .before in
     let a = s .args in
-    closed-not-whole (now (a .area)) (a .bits) (s .pre .1 .0) (s .pre .1 .1) (a .s) (office (a .desk) (now (a .pool)) (now (a .descriptors)))
-    (sym (v .verdict .ensures) ∙ m .enum-told2 .given .1) (n .errored-unit .ensures)
+    let o = office (a .desk) (now (a .pool)) (now (a .descriptors)) in
+    rw (closed-not-whole (now (a .area)) (a .bits) (s .pre .1 .0) (s .pre .1 .1) (a .s) o (judged v (m .enum-told2 .given .1))) (n .errored-unit .ensures)
 
 same-length-3 : tie.Need-same-length-3
 same-length-3 c = search needs
@@ -88,8 +99,8 @@ returns-3 c =
     let v = m .before .before in
     let s = v .before .before .before in
     let a = s .args in
-    closed-wrong (now (a .area)) (a .bits) (s .pre .1 .0) (s .pre .1 .1) (a .s) (office (a .desk) (now (a .pool)) (now (a .descriptors)))
-    (sym (v .verdict .ensures) ∙ m .enum-told3 .given .1) (n .errored-unit2 .ensures)
+    let o = office (a .desk) (now (a .pool)) (now (a .descriptors)) in
+    rw (closed-wrong (now (a .area)) (a .bits) (s .pre .1 .0) (s .pre .1 .1) (a .s) o (judged v (m .enum-told3 .given .1))) (n .errored-unit2 .ensures)
 
 same-length-5 : tie.Need-same-length-5
 same-length-5 c = search needs
@@ -104,8 +115,8 @@ returns-4 c =
     let v = m .before .before in
     let s = v .before .before .before in
     let a = s .args in
-    closed-good (now (a .area)) (a .bits) (s .pre .1 .0) (s .pre .1 .1) (a .s) (office (a .desk) (now (a .pool)) (now (a .descriptors)))
-    (sym (v .verdict .ensures) ∙ m .enum-told4 .given .1) (n .good-unit .ensures)
+    let o = office (a .desk) (now (a .pool)) (now (a .descriptors)) in
+    rw (closed-good (now (a .area)) (a .bits) (s .pre .1 .0) (s .pre .1 .1) (a .s) o (judged v (m .enum-told4 .given .1))) (n .good-unit .ensures)
 
 pub closed-unit-spec : {M : Type 1} → statement M
 closed-unit-spec =

@@ -17,6 +17,12 @@ store-next-requires c κs =
     let s = c .before .before .before .before .before .before .before .before .before .before .before in
     (omega (arith, s .pre), omega (arith, s .pre), omega (arith, s .pre))
 
+desk-of-requires : tie.Need-desk-of-requires
+desk-of-requires c κs = search needs
+
+event-of-requires : tie.Need-event-of-requires
+event-of-requires c κs = search needs
+
 same-length : tie.Need-same-length
 same-length c = search needs
 
@@ -25,25 +31,32 @@ same-length-2 c = search needs
 
 returns : tie.Need-returns
 returns c =
-    let n = c .before .before .before .before in
+    let n = c .before .before .before .before .before .before in
     let i = n .before .before .before in
     let f = i .before .before .before .before .before .before in
     let s = f .before .before .before in
     let a = s .args in
     errored-over (a .s) (a .desk) (now (a .pool)) (now (a .descriptors)) (now (a .area)) (a .count) (s .pre .1 .0) (s .pre .1 .1) (f .first-five .ensures)
     (i .before .is-free .ensures) (a .status) (a .kind) (i .if1 .taken) (n .store-next .ensures .0) (n .store-next .ensures .1) (n .store-next .ensures .2)
+    (c .before .desk-of .ensures) (c .event-of .ensures)
+
+desk-of-requires-2 : tie.Need-desk-of-requires-2
+desk-of-requires-2 c κs = search needs
+
+event-of-requires-2 : tie.Need-event-of-requires-2
+event-of-requires-2 c κs = search needs
 
 same-length-3 : tie.Need-same-length-3
 same-length-3 c = search needs
 
 returns-2 : tie.Need-returns-2
 returns-2 c =
-    let i = c .before .before in
+    let i = c .before .before .before .before in
     let f = i .before .before .before .before .before .before in
     let s = f .before .before .before in
     let a = s .args in
     errored-lost (a .s) (a .desk) (now (a .pool)) (now (a .descriptors)) (now (a .area)) (a .count) (s .pre .1 .0) (s .pre .1 .1) (f .first-five .ensures)
-    (i .before .is-free .ensures) (a .status) (a .kind) (i .if1 .left)
+    (i .before .is-free .ensures) (a .status) (a .kind) (i .if1 .left) (c .before .desk-of2 .ensures) (c .event-of2 .ensures)
 
 pub errored-unit-spec : {M : Type 1} → statement M
 errored-unit-spec =
@@ -52,8 +65,12 @@ errored-unit-spec =
     first-five-requires
     is-free-requires
     store-next-requires
+    desk-of-requires
+    event-of-requires
     same-length
     same-length-2
     returns
+    desk-of-requires-2
+    event-of-requires-2
     same-length-3
     returns-2)

@@ -29,17 +29,35 @@ store-next-requires c κs =
 count-over-requires : tie.Need-count-over-requires
 count-over-requires c κs = search needs
 
+desk-of-requires : tie.Need-desk-of-requires
+desk-of-requires c κs = search needs
+
+event-of-requires : tie.Need-event-of-requires
+event-of-requires c κs = search needs
+
 enum-told-2 : tie.Need-enum-told-2
 enum-told-2 c = search needs
 
 count-dropped-requires : tie.Need-count-dropped-requires
 count-dropped-requires c κs = search needs
 
+desk-of-requires-2 : tie.Need-desk-of-requires-2
+desk-of-requires-2 c κs = search needs
+
+event-of-requires-2 : tie.Need-event-of-requires-2
+event-of-requires-2 c κs = search needs
+
 enum-told-3 : tie.Need-enum-told-3
 enum-told-3 c = search needs
 
 count-lost-requires : tie.Need-count-lost-requires
 count-lost-requires c κs = search needs
+
+desk-of-requires-3 : tie.Need-desk-of-requires-3
+desk-of-requires-3 c κs = search needs
+
+event-of-requires-3 : tie.Need-event-of-requires-3
+event-of-requires-3 c κs = search needs
 
 same-length : tie.Need-same-length
 same-length c = search needs
@@ -49,7 +67,8 @@ same-length-2 c = search needs
 
 returns : tie.Need-returns
 returns c =
-    let n = c .before .before .before .before .before in
+    let o = c .before .before in
+    let n = o .before .before .before .before .before in
     let m = n .before .before .before in
     let g = m .before .before in
     let q = g .before .before in
@@ -58,35 +77,39 @@ returns c =
     let a = s .args in
     good-over (a .s) (a .desk) (now (a .pool)) (now (a .descriptors)) (now (a .area)) (a .count) (s .pre .1 .1) (s .pre .1 .2) (f .first-five .ensures)
     (f .before .is-free .ensures) (s .pre .1 .0) (q .settle .ensures) (g .count-good .ensures) (m .enum-told .given .1) (n .store-next .ensures .0)
-    (n .store-next .ensures .1) (n .store-next .ensures .2) (c .count-over .ensures)
+    (n .store-next .ensures .1) (n .store-next .ensures .2) (o .count-over .ensures) (c .before .desk-of .ensures) (c .event-of .ensures)
 
 same-length-3 : tie.Need-same-length-3
 same-length-3 c = search needs
 
 returns-2 : tie.Need-returns-2
 returns-2 c =
-    let m = c .before in
+    let o = c .before .before in
+    let m = o .before in
     let g = m .before .before in
     let q = g .before .before in
     let f = q .before .before .before in
     let s = f .before .before .before .before .before in
     let a = s .args in
     good-dropped (a .s) (a .desk) (now (a .pool)) (now (a .descriptors)) (now (a .area)) (a .count) (s .pre .1 .1) (s .pre .1 .2) (f .first-five .ensures)
-    (f .before .is-free .ensures) (s .pre .1 .0) (q .settle .ensures) (g .count-good .ensures) (m .enum-told2 .given .1) (c .count-dropped .ensures)
+    (f .before .is-free .ensures) (s .pre .1 .0) (q .settle .ensures) (g .count-good .ensures) (m .enum-told2 .given .1) (o .count-dropped .ensures)
+    (c .before .desk-of2 .ensures) (c .event-of2 .ensures)
 
 same-length-4 : tie.Need-same-length-4
 same-length-4 c = search needs
 
 returns-3 : tie.Need-returns-3
 returns-3 c =
-    let m = c .before .before in
+    let o = c .before .before in
+    let m = o .before in
     let g = m .before .before in
     let q = g .before .before in
     let f = q .before .before .before in
     let s = f .before .before .before .before .before in
     let a = s .args in
     good-lost (a .s) (a .desk) (now (a .pool)) (now (a .descriptors)) (now (a .area)) (a .count) (s .pre .1 .1) (s .pre .1 .2) (f .first-five .ensures)
-    (f .before .is-free .ensures) (s .pre .1 .0) (q .settle .ensures) (g .count-good .ensures) (m .enum-told3 .given .1) (c .before .count-lost .ensures)
+    (f .before .is-free .ensures) (s .pre .1 .0) (q .settle .ensures) (g .count-good .ensures) (m .enum-told3 .given .1) (o .count-lost .ensures)
+    (c .before .desk-of3 .ensures) (c .event-of3 .ensures)
 
 pub good-unit-spec : {M : Type 1} → statement M
 good-unit-spec =
@@ -99,10 +122,16 @@ good-unit-spec =
     enum-told
     store-next-requires
     count-over-requires
+    desk-of-requires
+    event-of-requires
     enum-told-2
     count-dropped-requires
+    desk-of-requires-2
+    event-of-requires-2
     enum-told-3
     count-lost-requires
+    desk-of-requires-3
+    event-of-requires-3
     same-length
     same-length-2
     returns
