@@ -2,3 +2,5 @@
 pub mod Faults
 pub mod Answers
 pub mod Kept
+pub mod Typed
+pub mod Receiving

@@ -3,3 +3,4 @@ pub mod Recording
 pub mod Findings
 pub mod Ends
 pub mod Octets
+pub mod Lines

@@ -2,7 +2,7 @@
 use Prim.Native.Nat.{ℕ, zero, suc, _+_, _*_, _≤_, _<_}
 use mathlib.Core.Path.{_≡_, refl, sym, ap, ap₂, subst, _∙_}
 use mathlib.Core.Bool.{Bool, true, false}
-use mathlib.Core.List.{List, [], _∷_, _++_, map}
+use mathlib.Core.List.{List, [], _∷_, _++_, map, append-nil}
 use native.Mathlib.Nat.{add-zero}
 use native.Mathlib.Omega.{arith}
 use lib.ListN.{length, take, length-append}
@@ -27,15 +27,15 @@ use Rattle.records.specs.Promises.{FirstFive, none, more, LimitsInRange, Monito
 use Rattle.records.proofs.Range.{stays-in-range}
 use Rattle.monitor.specs.declared.Limits.{Limits}
 use Rattle.board.specs.declared.Settings.{Settings}
-use Rattle.units.specs.Marks.{Mark, found, octetEnd, octetReceiver, octetMarks}
+use Rattle.units.specs.Marks.{Mark, found, octetEnd, octetReceiver, octetMarks, lineReceiver, lineMarks}
 use Rattle.units.specs.Desk.{Office, nextOffice, happens, officeAfter, happenings}
 use Rattle.units.specs.Fit.{Fits}
 use Rattle.units.specs.Promises.{Allowed}
-use Rattle.units.proofs.Desks.{fit-kept, found-one, one-at-most, first-fives}
+use Rattle.units.proofs.Desks.{fit-kept, found-one, one-at-most, first-fives, happenings-append}
 use Rattle.reception.specs.declared.Progress.{Progress}
 use Rattle.reception.specs.declared.Passed.{Passed}
 use Rattle.reception.specs.Line.{limitsOf}
-use Rattle.reception.specs.Writing.{Written, holding, marksDone, Able, StandsIn, Shown, areaAfter, OctetTaken}
+use Rattle.reception.specs.Writing.{Written, holding, marksDone, Able, Ready, StandsIn, Shown, areaAfter, LineTaken}
 use Rattle.reception.proofs.Recording.{marks-none, marks-append}
 
 -- ---- what marks keep
@@ -71,11 +71,6 @@ found-count s (f ∷ fs) o =
     let e = found-one s o f in
     let r = found-count s fs (nextOffice s o (found f)) in
     omega (arith, length-append (happens s o (found f)) (happenings s (nextOffice s o (found f)) (map found fs)))
-
--- what the code needs of what it holds, its room apart
-pub record Ready (s : Settings) (w : Written) : Type 0 where
-  pub monitor : MonitorInRange (limitsOf s) (w .watch .monitor)
-  pub fits : Fits s (w .office .desk) (w .office .pool) (w .office .descriptors)
 
 pub ready-kept : (s : Settings) (w : Written) (ms : List Mark) → LimitsInRange (limitsOf s) → AllAllowed ms → Ready s w → Ready s (marksDone s w ms)
 unfolding marksDone
@@ -267,6 +262,23 @@ module _ (s : Settings) (line : Line) (area₀ : List ℕ) (octet : ℕ) (w : Wr
         }
 
 -- ---- the end of the octet
+pub single-octet : (M : ℕ) (st : Receiver) (octet : ℕ) → lineMarks M st (octet ∷ []) ≡ octetMarks M st octet
+unfolding lineMarks
+single-octet M st octet = append-nil (octetMarks M st octet)
+
+-- "At most three records come from one line octet."
+three : (s : Settings) (M : ℕ) (st : Receiver) (octet : ℕ) (w : Written) → 7 ≤ M → marksDone s w (octetMarks M st octet) .count ≤ w .count + 3
+unfolding marksDone happenings
+three s M st octet w h =
+    let fs = findings M st (bitsOf 8 octet) in
+    let o = w .office in
+    let a : length (happenings s o (octetMarks M st octet)) ≡ length (happenings s o (map found fs)) + length (happenings s (officeAfter s o (map found fs)) (octetEnd ∷ [])) =
+    ap length (happenings-append s (map found fs) (octetEnd ∷ []) o)
+    ∙ length-append (happenings s o (map found fs)) (happenings s (officeAfter s o (map found fs)) (octetEnd ∷ [])) in
+    let b : length (happenings s (officeAfter s o (map found fs)) (octetEnd ∷ [])) ≡ length (happens s (officeAfter s o (map found fs)) octetEnd) =
+    ap length (append-nil (happens s (officeAfter s o (map found fs)) octetEnd)) in
+    omega (arith, found-count s fs o, one-at-most s (officeAfter s o (map found fs)) octetEnd, two-findings M st octet h)
+
 module _ (s : Settings) (line : Line) (area₀ : List ℕ) (octet : ℕ) (w : Written) (area pool descriptors out : List ℕ) (cur : Line) (rest left : ℕ) (q : Progress)
     (b : Between s line area₀ octet w area pool descriptors out cur rest left q) (z : left ≡ 0) where
   no-bits : bitsOf left rest ≡ []
@@ -279,13 +291,21 @@ module _ (s : Settings) (line : Line) (area₀ : List ℕ) (octet : ℕ) (w : Wr
       ∙ ap (λ (x : List Bool). marksDone s (holding q pool descriptors out) (map found (findings (s .m) (decode cur area) x))) (sym no-bits) ∙ b .still
 
   pub ended : (r : Progress) (out′ : List ℕ) → holding r pool descriptors out′ ≡ marksDone s (holding q pool descriptors out) (octetEnd ∷ [])
-      → OctetTaken s line area₀ octet w (record { line = cur; progress = r }) area (holding r pool descriptors out′)
+      → LineTaken s line area₀ (octet ∷ []) w (record { line = cur; progress = r }) area (holding r pool descriptors out′)
+  unfolding lineReceiver
   ended r out′ e =
       record {
         receiver = ap (after (s .m) (decode cur area)) (sym no-bits) ∙ b .receiver;
         held = b .held;
-        written =
-            e ∙ ap (λ (x : Written). marksDone s x (octetEnd ∷ [])) done-bits
-            ∙ sym (marks-append s w (map found (findings (s .m) (decode line area₀) (bitsOf 8 octet))) (octetEnd ∷ [])
-            (happenings-five s (map found (findings (s .m) (decode line area₀) (bitsOf 8 octet))) (w .office)));
+        written = whole ∙ ap (marksDone s w) (sym (single-octet (s .m) (decode line area₀) octet));
+        ready =
+            subst (Ready s) (sym e)
+            (ready-kept s (holding q pool descriptors out) (octetEnd ∷ []) (b .limits) (one-more {m = octetEnd} (omega arith) none-left) (b .ready));
+        few = subst (λ (x : Written). x .count ≤ w .count + 3) (sym whole) (three s (s .m) (decode line area₀) octet w (b .longest .0));
       }
+    where
+      whole : holding r pool descriptors out′ ≡ marksDone s w (octetMarks (s .m) (decode line area₀) octet)
+      whole =
+          e ∙ ap (λ (x : Written). marksDone s x (octetEnd ∷ [])) done-bits
+          ∙ sym (marks-append s w (map found (findings (s .m) (decode line area₀) (bitsOf 8 octet))) (octetEnd ∷ [])
+          (happenings-five s (map found (findings (s .m) (decode line area₀) (bitsOf 8 octet))) (w .office)))

@@ -20,7 +20,7 @@ use Rattle.board.specs.declared.Settings.{Settings}
 use Rattle.units.specs.declared.Desk.{Desk}
 use Rattle.units.specs.declared.Taken.{Taken}
 use Rattle.units.specs.Marks.{Mark}
-use Rattle.bits.specs.Machine.{run-append, outs-append}
+use Rattle.units.proofs.Desks.{office-append, happenings-append}
 use Rattle.monitor.specs.declared.Limits.{Limits}
 use Rattle.units.specs.Desk.{Office, office, Served, served, serves, nextOffice, happens, officeAfter, happenings}
 use Rattle.reception.specs.declared.Progress.{Progress}
@@ -44,14 +44,6 @@ single-watch l w h = refl
 single-record : (l : Limits) (w : Watch) (h : Happening) → recordsOf l w (h ∷ []) ≡ recorded l w h
 unfolding recordsOf
 single-record l w h = append-nil (recorded l w h)
-
-office-append : (s : Settings) (ms ns : List Mark) (o : Office) → officeAfter s o (ms ++ ns) ≡ officeAfter s (officeAfter s o ms) ns
-unfolding officeAfter
-office-append s ms ns o = run-append (nextOffice s) ms ns o
-
-happenings-append : (s : Settings) (ms ns : List Mark) (o : Office) → happenings s o (ms ++ ns) ≡ happenings s o ms ++ happenings s (officeAfter s o ms) ns
-unfolding officeAfter happenings
-happenings-append s ms ns o = outs-append (nextOffice s) (happens s) ms ns o
 
 -- ---- marks: none, one with one happening, and two parts
 module _ (s : Settings) (w : Written) where

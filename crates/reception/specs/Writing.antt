@@ -16,7 +16,7 @@ use Rattle.framing.specs.Representation.{decode, wellFormed, shows, unitIn}
 use Rattle.board.specs.declared.Settings.{Settings}
 use Rattle.units.specs.declared.Taken.{Taken}
 use Rattle.units.specs.Fit.{Fits}
-use Rattle.units.specs.Marks.{Mark, octetReceiver, octetMarks}
+use Rattle.units.specs.Marks.{Mark, lineReceiver, lineMarks}
 use Rattle.units.specs.Desk.{Office, office, officeAfter, happenings}
 use Rattle.reception.specs.declared.Progress.{Progress}
 use Rattle.reception.specs.declared.Passed.{Passed}
@@ -56,6 +56,11 @@ pub record Able (s : Settings) (p : Progress) (pool descriptors out : List ℕ) 
   pub fits : Fits s (p .desk) pool descriptors
   pub room : 16 * p .count + 16 ≤ length out
 
+-- the same of what the code holds, its room apart
+pub record Ready (s : Settings) (w : Written) : Type 0 where
+  pub monitor : MonitorInRange (limitsOf s) (w .watch .monitor)
+  pub fits : Fits s (w .office .desk) (w .office .pool) (w .office .descriptors)
+
 -- a closed unit stands in the area, with the seven bits of its flag behind it and zero past them
 abbrev pub StandsIn : Found → List ℕ → Type 0
 StandsIn Nothing area = Unit {0}
@@ -76,8 +81,10 @@ areaAfter (Closed n) area = packed 279 []
 areaAfter Abort area = area
 areaAfter Long area = area
 
--- what one line octet does
-pub record OctetTaken (s : Settings) (line : Line) (area : List ℕ) (octet : ℕ) (w : Written) (r : Passed) (area′ : List ℕ) (w′ : Written) : Type 0 where
-  pub receiver : decode (r .line) area′ ≡ octetReceiver (s .m) (decode line area) octet
+-- what line octets do: the receiver and the marks of the definition, and all that the next ones need; one octet brings three records at most
+pub record LineTaken (s : Settings) (line : Line) (area : List ℕ) (octets : List ℕ) (w : Written) (r : Passed) (area′ : List ℕ) (w′ : Written) : Type 0 where
+  pub receiver : decode (r .line) area′ ≡ lineReceiver (s .m) (decode line area) octets
   pub held : wellFormed (s .m) (r .line) area′
-  pub written : w′ ≡ marksDone s w (octetMarks (s .m) (decode line area) octet)
+  pub written : w′ ≡ marksDone s w (lineMarks (s .m) (decode line area) octets)
+  pub ready : Ready s w′
+  pub few : w′ .count ≤ w .count + 3 * length octets

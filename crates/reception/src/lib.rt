@@ -17,7 +17,7 @@ ghost use Rattle.framing.specs.Delimitation.{Finding};
 ghost use Rattle.framing.specs.Representation.{wellFormed};
 ghost use Rattle.units.specs.Marks.{Mark, octetEnd};
 ghost use Rattle.units.specs.Marks.{found as found-mark};
-ghost use Rattle.reception.specs.Writing.{PutDown, Able, StandsIn, Shown, areaAfter, holding, marksDone, OctetTaken};
+ghost use Rattle.reception.specs.Writing.{PutDown, Able, Ready, StandsIn, Shown, areaAfter, holding, marksDone, LineTaken};
 
 // Desk, monitor and event bits, and how many records are written.
 pub struct Progress {
@@ -145,7 +145,7 @@ pub fn take_octet(
 ) -> Passed
     requires { ⌜ Able s p (now pool) (now descriptors) (now out) ⌝ }
     requires { ⌜ wellFormed (s .m) line (now area) × (16 * p .count + 48 ≤ length (now out)) ⌝ }
-    ensures { λ r. ⌜ OctetTaken s line (now (area .entry)) octet (holding p (now (pool .entry)) (now (descriptors .entry)) (now (out .entry))) r (now (area .exit)) (holding (r .progress) (now (pool .exit)) (now (descriptors .exit)) (now (out .exit))) ⌝ }
+    ensures { λ r. ⌜ LineTaken s line (now (area .entry)) (octet ∷ []) (holding p (now (pool .entry)) (now (descriptors .entry)) (now (out .entry))) r (now (area .exit)) (holding (r .progress) (now (pool .exit)) (now (descriptors .exit)) (now (out .exit))) ⌝ }
 {
     let mut cur = line;
     let mut rest = octet;
@@ -172,5 +172,44 @@ pub fn take_octet(
     Passed {
         line: cur,
         progress: done,
+    }
+}
+
+// Line octets, in their order.
+pub fn take_line(
+    s: Settings,
+    line: Line,
+    p: Progress,
+    octets: &[u8],
+    area: &mut [u8; 279],
+    pool: &mut [u8],
+    descriptors: &mut [u16],
+    out: &mut [u8],
+) -> Passed
+    requires { ⌜ (7 ≤ s .m) × (s .m ≤ 278) × LimitsInRange (limitsOf s) × Ready s (holding p (now pool) (now descriptors) (now out)) ⌝ }
+    requires { ⌜ wellFormed (s .m) line (now area) × (16 * p .count + 48 * length (now octets) ≤ length (now out)) × (length (now octets) ≤ 1024) ⌝ }
+    ensures { λ r. ⌜ LineTaken s line (now (area .entry)) (now (octets .entry)) (holding p (now (pool .entry)) (now (descriptors .entry)) (now (out .entry))) r (now (area .exit)) (holding (r .progress) (now (pool .exit)) (now (descriptors .exit)) (now (out .exit))) ⌝ }
+{
+    let mut cur = line;
+    let mut q = p;
+    let mut at: usize = 0;
+    while at < octets.len() {
+        let passed = take_octet(
+            s,
+            cur,
+            q,
+            octets[at],
+            &mut *area,
+            &mut *pool,
+            &mut *descriptors,
+            &mut *out,
+        );
+        cur = passed.line;
+        q = passed.progress;
+        at += 1;
+    }
+    Passed {
+        line: cur,
+        progress: q,
     }
 }

@@ -1,0 +1,149 @@
+-- How receive's answer is met: refused, or the octets are taken; and what no fault says.
+use Prim.Native.Nat.{ℕ, _+_, _*_, _/_, _≤_, _<_}
+use mathlib.Core.Path.{_≡_, refl, sym, ap, subst, _∙_}
+use mathlib.Core.Bool.{Bool, true, false, not}
+use mathlib.Core.List.{List}
+use native.Mathlib.Nat.{zero-add}
+use native.Mathlib.Omega.{arith}
+use lib.Dec.{leb, ltb}
+use lib.ListN.{length, take}
+use borrow.Author.Tests.{eqb-true, leb-false, ltb-true, ltb-false, lt-ltb, le-ltb, not-false}
+use Rattle.bits.specs.Octets.{Octets, lineBits, packed}
+use Rattle.framing.specs.declared.Line.{Line}
+use Rattle.framing.specs.Delimitation.{Receiver}
+use Rattle.framing.specs.Representation.{decode, encode, encodeArea, wellFormed}
+use Rattle.framing.proofs.Encoding.{encodes-back}
+use Rattle.monitor.specs.declared.Mode.{Mode}
+use Rattle.monitor.specs.declared.Mode.the-variants.{Off, Failure, Alignment, Idle}
+use Rattle.records.specs.Promises.{LimitsInRange, MonitorInRange, countInRange}
+use Rattle.board.specs.declared.Settings.{Settings}
+use Rattle.board.specs.declared.Link.{Link}
+use Rattle.board.specs.Order.{malformed, countOut}
+use Rattle.board.proofs.Orders.{both, Ranges, InOrder, in-order}
+use Rattle.board.proofs.Past.{past-holds}
+use Rattle.units.specs.Marks.{lineReceiver, lineMarks}
+use Rattle.reception.specs.declared.Progress.{Progress}
+use Rattle.reception.specs.declared.Passed.{Passed}
+use Rattle.reception.specs.Line.{limitsOf, boardAfter, lineHappenings, lineRecords}
+use Rattle.reception.specs.Writing.{Written, holding, marksDone, Ready, LineTaken}
+use Rattle.link.specs.Refusals.{fitsMemory, receiveNumber}
+use Rattle.link.specs.Receive.{ReceiveOutcome, progressOf, boardOf, linkAfter, received, receiveAnswer}
+use Rattle.link.proofs.Faults.{none}
+use Rattle.link.proofs.Answers.{done, refused}
+
+-- room for 48 octets each, with no product
+pub room-for : (room octets : ℕ) → ltb (room / 48) octets ≡ ltb room (48 * octets)
+room-for room octets = go (ltb (room / 48) octets) refl
+  where
+    go : (b : Bool) → ltb (room / 48) octets ≡ b → ltb (room / 48) octets ≡ ltb room (48 * octets)
+    go true e = e ∙ sym (lt-ltb room (48 * octets) (omega (arith, ltb-true (room / 48) octets e)))
+    go false e = e ∙ sym (le-ltb room (48 * octets) (omega (arith, ltb-false (room / 48) octets e)))
+
+-- ---- what no fault says
+pub record Receivable (l : Link) (octets pool descriptors records : List ℕ) : Type 0 where
+  pub order : InOrder l
+  pub octets-280 : length pool ≡ 280 * l .settings .k
+  pub words-2 : length descriptors ≡ 2 * l .settings .k
+  pub few : length octets ≤ 1024
+  pub room : 48 * length octets ≤ length records
+
+count-in : (mode : Mode) (s : Settings) (count : ℕ) → countOut mode s count ≡ false → countInRange (limitsOf s) mode count
+count-in Failure s count e = leb-false (s .t) count e
+count-in Alignment s count e = leb-false (s .a) count e
+count-in Idle s count e = ltb-false 1024 count e
+count-in Off s count e = ltb-false 1024 count e
+
+module _ (l : Link) (octets pool descriptors records : List ℕ) where
+  pub receivable : receiveNumber l octets pool descriptors records ≡ 0 → Receivable l octets pool descriptors records
+  unfolding receiveNumber fitsMemory
+  receivable e =
+      let n1 = none _ _ _ (λ z. omega arith) e in
+      let n2 = none _ _ _ (λ z. omega arith) (n1 .1) in
+      let n5 = none _ _ _ (λ z. omega arith) (n2 .1) in
+      let n7 = none _ _ _ (λ z. omega arith) (n5 .1) in
+      let n8 = none _ _ _ (λ z. omega arith) (n7 .1) in
+      let fits = both _ _ (not-false _ (n5 .0)) in
+      record {
+        order = in-order l (not-false _ (n2 .0)) (n1 .0);
+        octets-280 = eqb-true _ _ (fits .0);
+        words-2 = eqb-true _ _ (fits .1);
+        few = ltb-false 1024 (length octets) (n7 .0);
+        room = ltb-false (length records) (48 * length octets) (n8 .0);
+      }
+
+  module _ (r : Receivable l octets pool descriptors records) where
+    s : Ranges (l .settings)
+    s = r .order .settings
+
+    pub limits : LimitsInRange (limitsOf (l .settings))
+    limits = record { t-low = s .t .0; t-high = s .t .1; d-low = s .d .0; d-high = s .d .1; a-low = s .a .0; a-high = s .a .1 }
+
+    pub ready : Ready (l .settings) (holding (progressOf l) pool descriptors records)
+    ready =
+        record {
+          monitor = record { number = r .order .number; count = count-in (l .monitor .mode) (l .settings) (l .monitor .count) (r .order .count) };
+          fits =
+              record { slots = s .k; octets = r .octets-280; words = r .words-2; next = r .order .next; counter = r .order .counter .0; reload = s .n .0 };
+        }
+
+    pub held : (length (l .line .area) ≡ 279) × Octets (l .line .area) → wellFormed (l .settings .m) (l .line .state) (l .line .area)
+    held a =
+        record {
+          run≤7 = r .order .run;
+          room = r .order .bits;
+          idle = r .order .idle;
+          fits = r .order .bits;
+          zeroed =
+              past-holds (l .line .state .bits) (l .line .area) (a .1) (r .order .area)
+              ∙ ap (λ (n : ℕ). packed n (take (l .line .state .bits) (lineBits (l .line .area)))) (a .0);
+        }
+
+  -- ---- the answer
+  is-received : (p : Passed) (area′ pool′ descriptors′ records′ : List ℕ) → l .settings .m ≤ 278
+      → LineTaken (l .settings) (l .line .state) (l .line .area) octets (holding (progressOf l) pool descriptors records) p area′ (holding (p .progress) pool′ descriptors′ records′)
+      → record {
+        number = 0;
+        link = linkAfter l (record { state = p .line; area = area′ }) (p .progress);
+        count = p .progress .count;
+        pool = pool′;
+        descriptors = descriptors′;
+        records = records′;
+      }
+      ≡ received l octets pool descriptors records
+  unfolding marksDone boardAfter lineHappenings lineRecords
+  is-received p area′ pool′ descriptors′ records′ m t =
+      let g : Receiver = lineReceiver (l .settings .m) (decode (l .line .state) (l .line .area)) octets in
+      let w = t .written in
+      let back = encodes-back (l .settings .m) (p .line) area′ m (t .held) in
+      let state : p .line ≡ encode g = back .0 ∙ ap encode (t .receiver) in
+      let area : area′ ≡ encodeArea g = back .1 ∙ ap encodeArea (t .receiver) in
+      let count : p .progress .count ≡ length (lineHappenings (l .settings) (boardOf l pool descriptors) octets) =
+      ap (λ (x : Written). x .count) w ∙ zero-add (length (lineHappenings (l .settings) (boardOf l pool descriptors) octets)) in
+      λ i.
+      record {
+        number = 0;
+        link = linkAfter l (record { state = state i; area = area i }) (record { desk = w i .office .desk; watch = w i .watch; count = 0 });
+        count = count i;
+        pool = w i .office .pool;
+        descriptors = w i .office .descriptors;
+        records = w i .out;
+      }
+
+  module _ (n : ℕ) (e : n ≡ receiveNumber l octets pool descriptors records) where
+    pub receive-refused : (n ≡ 0 → ⊥)
+        → record { number = n; link = l; count = 0; pool = pool; descriptors = descriptors; records = records } ≡ receiveAnswer l octets pool descriptors records
+    unfolding receiveAnswer
+    receive-refused z =
+        ap {B = ReceiveOutcome} (λ (k : ℕ). record { number = k; link = l; count = 0; pool = pool; descriptors = descriptors; records = records }) e
+        ∙ sym (refused _ _ _ (λ q. z (e ∙ q)))
+
+    pub receive-done : (p : Passed) (area′ pool′ descriptors′ records′ : List ℕ) (l′ : Link) → n ≡ 0 → l .settings .m ≤ 278
+        → LineTaken (l .settings) (l .line .state) (l .line .area) octets (holding (progressOf l) pool descriptors records) p area′ (holding (p .progress) pool′ descriptors′ records′)
+        → l′ ≡ linkAfter l (record { state = p .line; area = area′ }) (p .progress)
+        → record { number = 0; link = l′; count = p .progress .count; pool = pool′; descriptors = descriptors′; records = records′ }
+        ≡ receiveAnswer l octets pool descriptors records
+    unfolding receiveAnswer
+    receive-done p area′ pool′ descriptors′ records′ l′ z m t el =
+        ap {B = ReceiveOutcome}
+        (λ (x : Link). record { number = 0; link = x; count = p .progress .count; pool = pool′; descriptors = descriptors′; records = records′ }) el
+        ∙ is-received p area′ pool′ descriptors′ records′ m t ∙ sym (done _ _ _ (sym e ∙ z))

@@ -1,0 +1,111 @@
+-- `link::line::receive` meets its contract: refused, or the octets are taken and the link is put together again.
+use Prim.Native.Nat.{_+_, _*_, _≤_}
+use mathlib.Core.Path.{_≡_, sym, subst, _∙_}
+use native.Mathlib.Omega.{arith}
+use lib.ListN.{length}
+use Rattle.reception.specs.declared.Progress.{Progress}
+use Rattle.reception.specs.Writing.{holding, Ready, LineTaken}
+use Rattle.link.proofs.Typed.{array-of-octets}
+use Rattle.link.proofs.Receiving.{receivable, limits, ready, held, receive-refused, receive-done}
+use borrow.Author.Needs.{needs}
+use Rattle.link.proofs.line.receive.Statement.{statement}
+use Rattle.link.proofs.line.receive.Tie as tie
+use Rattle.link.proofs.line.receive.Reads as reads
+use Rattle.link.proofs.line.receive.Lts as lts
+use Rattle.link.proofs.line.link_after.Reads as link-after-reads
+use Rattle.link.proofs.line.progress_of.Reads as progress-of-reads
+use Rattle.link.proofs.line.receive_number.Reads as receive-number-reads
+use Rattle.reception.proofs.take_line.Reads as take-line-reads
+
+-- src/line.rt:85:9
+receive-number-requires : tie.Need-receive-number-requires
+receive-number-requires c κs = search needs
+
+-- src/line.rt:87:9
+same-length : tie.Need-same-length
+same-length c = search needs
+
+-- src/line.rt:87:9
+same-length-2 : tie.Need-same-length-2
+same-length-2 c = search needs
+
+-- src/line.rt:87:9
+same-length-3 : tie.Need-same-length-3
+same-length-3 c = search needs
+
+-- src/line.rt:87:9
+returns : tie.Need-returns
+returns c =
+    let a = c .before .before .before .before .before .before .before .before .before .args in
+    receive-refused (a .link) (a .octets .now) (a .pool .now) (a .descriptors .now) (a .records .now) (c .before .receive-number .result) (c .before .receive-number .ensures) (c .if1 .taken)
+
+-- src/line.rt:93:9
+progress-of-requires : tie.Need-progress-of-requires
+progress-of-requires c κs = search needs
+
+-- src/line.rt:97:9
+take-line-requires : tie.Need-take-line-requires
+take-line-requires c κs =
+    let s = c .before .before .before .before .before .before .before .before .before .before .before .before .before .before .before .before .before in
+    let a = s .args in
+    let n = c .before .before .before .before .before .before .before .before .before .receive-number .ensures in
+    let ok = receivable (a .link) (a .octets .now) (a .pool .now) (a .descriptors .now) (a .records .now) (sym n ∙ c .before .before .before .before .before .before .before .before .if1 .left) in
+    let typed = array-of-octets 279 (a .link .line .area) _ (s .good .0 .1 .1 .1 .1 .0 .1 .1 .1 .0) in
+    let p = c .before .before .before .before .before .before .before .progress-of .ensures in (
+      (
+        ok .order .settings .m .0,
+        ok .order .settings .m .1,
+        limits (a .link) (a .octets .now) (a .pool .now) (a .descriptors .now) (a .records .now) ok,
+        subst (λ (x : Progress). Ready (a .link .settings) (holding x (a .pool .now) (a .descriptors .now) (a .records .now))) (sym p) (ready (a .link) (a .octets .now) (a .pool .now) (a .descriptors .now) (a .records .now) ok),
+      ),
+      (held (a .link) (a .octets .now) (a .pool .now) (a .descriptors .now) (a .records .now) ok typed, subst (λ (x : Progress). 16 * x .count + 48 * length (a .octets .now) ≤ length (a .records .now)) (sym p) (omega (arith, ok .room)), ok .few),
+    )
+
+-- src/line.rt:101:9
+link-after-requires : tie.Need-link-after-requires
+link-after-requires c κs = search needs
+
+-- src/line.rt:82:1
+same-length-4 : tie.Need-same-length-4
+same-length-4 c = search needs
+
+-- src/line.rt:82:1
+same-length-5 : tie.Need-same-length-5
+same-length-5 c = search needs
+
+-- src/line.rt:82:1
+same-length-6 : tie.Need-same-length-6
+same-length-6 c = search needs
+
+-- src/line.rt:82:1
+returns-2 : tie.Need-returns-2
+returns-2 c =
+    let a = c .before .before .before .before .before .before .before .before .before .before .before .before .before .before .before .before .before .before .before .before .before .before .before .before .before .before .before .args in
+    let n = c .before .before .before .before .before .before .before .before .before .before .before .before .before .before .before .before .before .before .before .receive-number in
+    let z = c .before .before .before .before .before .before .before .before .before .before .before .before .before .before .before .before .before .before .if1 .left in
+    let ok = receivable (a .link) (a .octets .now) (a .pool .now) (a .descriptors .now) (a .records .now) (sym (n .ensures) ∙ z) in
+    let p = c .before .before .before .before .before .before .before .before .before .before .before .before .before .before .before .before .before .progress-of .ensures in
+    let t = c .before .before .before .before .before .before .before .before .before .take-line in
+    receive-done (a .link) (a .octets .now) (a .pool .now) (a .descriptors .now) (a .records .now) (n .result) (n .ensures) (t .result) (t .last .1 .1 .1 .1 .0) (t .last .1 .1 .1 .1 .1 .0) (t .last .1 .1 .1 .1 .1 .1 .0)
+    (t .last .1 .1 .1 .1 .1 .1 .1 .0) (c .link-after .result) z (ok .order .settings .m .1)
+    (subst (λ (x : Progress).
+    LineTaken (a .link .settings) (a .link .line .state) (a .link .line .area) (a .octets .now) (holding x (a .pool .now) (a .descriptors .now) (a .records .now)) (t .result)
+    (t .last .1 .1 .1 .1 .0) (holding (t .result .progress) (t .last .1 .1 .1 .1 .1 .0) (t .last .1 .1 .1 .1 .1 .1 .0) (t .last .1 .1 .1 .1 .1 .1 .1 .0))) p (t .ensures))
+    (c .link-after .ensures)
+
+pub receive-spec : {M : Type 1} → statement M
+receive-spec =
+    tie.close
+    (tie.spec
+    receive-number-requires
+    same-length
+    same-length-2
+    same-length-3
+    returns
+    progress-of-requires
+    take-line-requires
+    link-after-requires
+    same-length-4
+    same-length-5
+    same-length-6
+    returns-2)

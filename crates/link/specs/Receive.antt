@@ -1,0 +1,86 @@
+-- Receive: line octets in; the link, the lent memory and the records after them.
+use Prim.Native.Nat.{ℕ}
+use mathlib.Core.List.{List}
+use lib.Dec.{eqb}
+use lib.ListN.{length}
+use lib.Seq.{sets}
+use Rattle.framing.specs.Representation.{decode, encode, encodeArea}
+use Rattle.board.specs.declared.Link.{Link}
+use Rattle.board.specs.declared.Gathering.{Gathering}
+use Rattle.units.specs.Desk.{office}
+use Rattle.reception.specs.declared.Progress.{Progress}
+use Rattle.reception.specs.Line.{Board, boardAfter, lineHappenings, lineRecords}
+use Rattle.link.specs.Refusals.{pick, receiveNumber}
+
+pub record ReceiveOutcome : Type 0 where
+  pub number : ℕ
+  pub link : Link
+  pub count : ℕ
+  pub pool : List ℕ
+  pub descriptors : List ℕ
+  pub records : List ℕ
+
+-- desk, monitor and event bits, with no record written yet
+abbrev pub progressOf : Link → Progress
+progressOf l =
+    record {
+      desk = record { counting = l .counting; memory = l .memory; slots = l .slots; counts = l .counts };
+      watch = record { monitor = l .monitor; events = l .events };
+      count = 0;
+    }
+
+-- the board that a link holds with the memory lent to it
+abbrev pub boardOf : Link → List ℕ → List ℕ → Board
+boardOf l pool descriptors =
+    record {
+      receiver = decode (l .line .state) (l .line .area);
+      office = office (progressOf l .desk) pool descriptors;
+      watch = progressOf l .watch;
+    }
+
+abbrev pub linkAfter : Link → Gathering → Progress → Link
+linkAfter l g q =
+    record {
+      opened = l .opened;
+      settings = l .settings;
+      line = g;
+      counting = q .desk .counting;
+      monitor = q .watch .monitor;
+      memory = q .desk .memory;
+      slots = q .desk .slots;
+      counts = q .desk .counts;
+      events = q .watch .events;
+      transmitter = l .transmitter;
+    }
+
+-- the link that holds a board; what no line octet touches is that of l
+abbrev pub linkOf : Link → Board → Link
+linkOf l b =
+    linkAfter l (record { state = encode (b .receiver); area = encodeArea (b .receiver) })
+    (record { desk = b .office .desk; watch = b .watch; count = 0 })
+
+-- "Receive returns how many it wrote. The rest of the area is unchanged."
+abbrev pub received : Link → List ℕ → List ℕ → List ℕ → List ℕ → ReceiveOutcome
+received l octets pool descriptors records =
+    let b = boardOf l pool descriptors in
+    let after = boardAfter (l .settings) b octets in
+    record {
+      number = 0;
+      link = linkOf l after;
+      count = length (lineHappenings (l .settings) b octets);
+      pool = after .office .pool;
+      descriptors = after .office .descriptors;
+      records = sets records 0 (lineRecords (l .settings) b octets);
+    }
+
+unfoldable pub receiveAnswer : Link → List ℕ → List ℕ → List ℕ → List ℕ → ReceiveOutcome
+receiveAnswer l octets pool descriptors records =
+    pick (eqb (receiveNumber l octets pool descriptors records) 0) (received l octets pool descriptors records)
+    (record {
+      number = receiveNumber l octets pool descriptors records;
+      link = l;
+      count = 0;
+      pool = pool;
+      descriptors = descriptors;
+      records = records;
+    })

@@ -1,0 +1,113 @@
+// Line octets: receive.
+use crate::booking;
+use board::Gathering;
+use board::Link;
+use board::order;
+use reception::Progress;
+use records::Watch;
+use units::Desk;
+ghost use mathlib.Core.Path.{_≡_};
+ghost use Rattle.link.specs.Refusals.{receiveNumber};
+ghost use Rattle.link.specs.Receive.{progressOf, linkAfter, receiveAnswer};
+
+// The number, the link, and how many records were written.
+pub struct Received {
+    pub number: u8,
+    pub link: Link,
+    pub count: usize,
+}
+
+// The number that receive answers.
+fn receive_number(link: Link, octets: &[u8], pool: &[u8], descriptors: &[u16], records: &[u8]) -> u8
+    ensures { λ r. ⌜ r ≡ receiveNumber link (now (octets .entry)) (now (pool .entry)) (now (descriptors .entry)) (now (records .entry)) ⌝ }
+{
+    let malformed = order::is_malformed(link);
+    let fits = booking::fits_memory(link.settings.k, pool, descriptors);
+    // 48 octets for each line octet, asked without a product that could overflow
+    let short = records.len() / 48 < octets.len();
+    let eight = crate::refuse(short, 8, 0);
+    let seven = crate::refuse(1024 < octets.len(), 7, eight);
+    let five = crate::refuse(!fits, 5, seven);
+    let two = crate::refuse(!link.opened, 2, five);
+    crate::refuse(malformed, 1, two)
+}
+
+// What line octets work on, with no record written yet.
+fn progress_of(link: Link) -> Progress
+    ensures { λ r. ⌜ r ≡ progressOf link ⌝ }
+{
+    let counting = link.counting;
+    let memory = link.memory;
+    let slots = link.slots;
+    let counts = link.counts;
+    let monitor = link.monitor;
+    Progress {
+        desk: Desk {
+            counting: counting,
+            memory: memory,
+            slots: slots,
+            counts: counts,
+        },
+        watch: Watch {
+            monitor: monitor,
+            events: link.events,
+        },
+        count: 0,
+    }
+}
+
+// The link after line octets: what none of them touches stays.
+fn link_after(link: Link, line: Gathering, q: Progress) -> Link
+    ensures { λ r. ⌜ r ≡ linkAfter link line q ⌝ }
+{
+    let mut l = link;
+    l.line = line;
+    let d = q.desk;
+    let counting = d.counting;
+    l.counting = counting;
+    let memory = d.memory;
+    l.memory = memory;
+    let slots = d.slots;
+    l.slots = slots;
+    let counts = d.counts;
+    l.counts = counts;
+    let w = q.watch;
+    let monitor = w.monitor;
+    l.monitor = monitor;
+    l.events = w.events;
+    l
+}
+
+// Takes line octets in, fills slots, and writes a record for each thing that happened.
+pub fn receive(
+    link: Link,
+    octets: &[u8],
+    pool: &mut [u8],
+    descriptors: &mut [u16],
+    records: &mut [u8],
+) -> Received
+    ensures { λ r. ⌜ record { number = r .number; link = r .link; count = r .count; pool = now (pool .exit); descriptors = now (descriptors .exit); records = now (records .exit) } ≡ receiveAnswer link (now (octets .entry)) (now (pool .entry)) (now (descriptors .entry)) (now (records .entry)) ⌝ }
+{
+    let n = receive_number(link, octets, &*pool, &*descriptors, &*records);
+    if n != 0 {
+        return Received {
+            number: n,
+            link: link,
+            count: 0,
+        };
+    }
+    let p = progress_of(link);
+    let s = link.settings;
+    let mut g = link.line;
+    let state = g.state;
+    let passed = reception::take_line(s, state, p, octets, &mut g.area, pool, descriptors, records);
+    let line = passed.line;
+    g.state = line;
+    let q = passed.progress;
+    let l = link_after(link, g, q);
+    Received {
+        number: 0,
+        link: l,
+        count: q.count,
+    }
+}

@@ -1,0 +1,86 @@
+-- Line octets in a row: what two parts do, one after the other, is what they do together.
+use Prim.Native.Nat.{ℕ, suc, _+_, _*_, _≤_, _<_}
+use mathlib.Core.Path.{_≡_, refl, sym, ap, ap₂, subst, _∙_}
+use mathlib.Core.List.{List, [], _∷_, _++_}
+use native.Mathlib.Omega.{arith}
+use lib.ListN.{length, take, getD, length-append}
+use lib.Seq.{length-take-le, take-suc, take-length}
+use Rattle.bits.specs.Machine.{run-append, outs-append}
+use Rattle.framing.specs.declared.Line.{Line}
+use Rattle.framing.specs.Delimitation.{Receiver}
+use Rattle.framing.specs.Representation.{decode, wellFormed}
+use Rattle.records.specs.Promises.{LimitsInRange}
+use Rattle.board.specs.declared.Settings.{Settings}
+use Rattle.units.specs.Marks.{Mark, octetReceiver, octetMarks, lineReceiver, lineMarks}
+use Rattle.reception.specs.declared.Progress.{Progress}
+use Rattle.reception.specs.declared.Passed.{Passed}
+use Rattle.reception.specs.Line.{limitsOf}
+use Rattle.reception.specs.Writing.{Written, holding, marksDone, Able, Ready, LineTaken}
+use Rattle.reception.proofs.Recording.{marks-none, marks-append}
+use Rattle.reception.proofs.Octets.{happenings-five, marks-length}
+
+pub receiver-append : (M : ℕ) (xs ys : List ℕ) (st : Receiver) → lineReceiver M st (xs ++ ys) ≡ lineReceiver M (lineReceiver M st xs) ys
+unfolding lineReceiver
+receiver-append M = run-append (octetReceiver M)
+
+pub marks-of-both : (M : ℕ) (xs ys : List ℕ) (st : Receiver) → lineMarks M st (xs ++ ys) ≡ lineMarks M st xs ++ lineMarks M (lineReceiver M st xs) ys
+unfolding lineReceiver lineMarks
+marks-of-both M = outs-append (octetReceiver M) (octetMarks M)
+
+module _ (s : Settings) (line : Line) (area : List ℕ) (w : Written) where
+  pub taken-none : (p : Progress) (pool descriptors out : List ℕ) → w ≡ holding p pool descriptors out → wellFormed (s .m) line area → Ready s w
+      → LineTaken s line area [] w (record { line = line; progress = p }) area (holding p pool descriptors out)
+  unfolding lineReceiver lineMarks
+  taken-none p pool descriptors out e h r =
+      record {
+        receiver = refl;
+        held = h;
+        written = sym e ∙ sym (marks-none s w);
+        ready = subst (Ready s) e r;
+        few = let c : p .count ≡ w .count = ap (λ (x : Written). x .count) (sym e) in omega arith;
+      }
+
+  pub taken-append : (xs ys : List ℕ) (r : Passed) (area′ : List ℕ) (w′ : Written) (r″ : Passed) (area″ : List ℕ) (w″ : Written)
+      → LineTaken s line area xs w r area′ w′ → LineTaken s (r .line) area′ ys w′ r″ area″ w″ → LineTaken s line area (xs ++ ys) w r″ area″ w″
+  taken-append xs ys r area′ w′ r″ area″ w″ a b =
+      record {
+        receiver = b .receiver ∙ ap (λ (st : Receiver). lineReceiver (s .m) st ys) (a .receiver) ∙ sym (receiver-append (s .m) xs ys (decode line area));
+        held = b .held;
+        written =
+            b .written
+            ∙ ap₂ (λ (x : Written) (st : Receiver). marksDone s x (lineMarks (s .m) st ys)) (a .written) (a .receiver)
+            ∙ sym (marks-append s w (lineMarks (s .m) (decode line area) xs) (lineMarks (s .m) (lineReceiver (s .m) (decode line area) xs) ys)
+            (happenings-five s (lineMarks (s .m) (decode line area) xs) (w .office)))
+            ∙ ap (marksDone s w) (sym (marks-of-both (s .m) xs ys (decode line area)));
+        ready = b .ready;
+        few = omega (arith, a .few, b .few, length-append xs ys);
+      }
+
+  -- the next octet of a list
+  pub taken-next : (octets : List ℕ) (at : ℕ) → at < length octets → (r : Passed) (area′ : List ℕ) (w′ : Written) (r″ : Passed) (area″ : List ℕ) (w″ : Written)
+      → LineTaken s line area (take at octets) w r area′ w′ → LineTaken s (r .line) area′ (getD octets at 0 ∷ []) w′ r″ area″ w″
+      → LineTaken s line area (take (at + 1) octets) w r″ area″ w″
+  taken-next octets at h r area′ w′ r″ area″ w″ a b =
+      subst (λ (xs : List ℕ). LineTaken s line area xs w r″ area″ w″)
+      (sym (ap (λ (n : ℕ). take n octets) (let e : at + 1 ≡ suc at = omega arith in e) ∙ take-suc octets at 0 h))
+      (taken-append (take at octets) (getD octets at 0 ∷ []) r area′ w′ r″ area″ w″ a b)
+
+  -- all of a list
+  pub taken-all : (octets : List ℕ) (at : ℕ) → at ≡ length octets → (r : Passed) (area′ : List ℕ) (w′ : Written)
+      → LineTaken s line area (take at octets) w r area′ w′ → LineTaken s line area octets w r area′ w′
+  taken-all octets at e r area′ w′ a =
+      subst (λ (xs : List ℕ). LineTaken s line area xs w r area′ w′) (ap (λ (n : ℕ). take n octets) e ∙ take-length octets) a
+
+  pub same-out : (xs : List ℕ) (r : Passed) (area′ : List ℕ) (w′ : Written) → LineTaken s line area xs w r area′ w′ → length (w′ .out) ≡ length (w .out)
+  same-out xs r area′ w′ a = ap (λ (x : Written). length (x .out)) (a .written) ∙ marks-length s w (lineMarks (s .m) (decode line area) xs)
+
+  -- room for the three records of the next octet
+  pub room-left : (octets : List ℕ) (at : ℕ) → at < length octets → (r : Passed) (area′ : List ℕ) (w′ : Written)
+      → 16 * w .count + 48 * length octets ≤ length (w .out) → LineTaken s line area (take at octets) w r area′ w′ → 16 * w′ .count + 48 ≤ length (w′ .out)
+  room-left octets at h r area′ w′ k a =
+      let n : length (take at octets) ≡ at = length-take-le at octets (omega arith) in
+      omega (arith, a .few, same-out (take at octets) r area′ w′ a)
+
+pub next-able : (s : Settings) (p : Progress) (pool descriptors out : List ℕ) → (7 ≤ s .m) × (s .m ≤ 278) → LimitsInRange (limitsOf s)
+    → Ready s (holding p pool descriptors out) → 16 * p .count + 48 ≤ length out → Able s p pool descriptors out
+next-able s p pool descriptors out m l r k = record { longest = m; limits = l; monitor = r .monitor; fits = r .fits; room = omega arith }
