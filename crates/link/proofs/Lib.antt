@@ -4,3 +4,4 @@ pub mod Answers
 pub mod Kept
 pub mod Typed
 pub mod Receiving
+pub mod Cutting

@@ -3,3 +3,4 @@ pub mod Refusals
 pub mod Calls
 pub mod Receive
 pub mod Promises
+pub mod LinePromises

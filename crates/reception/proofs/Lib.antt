@@ -4,3 +4,4 @@ pub mod Findings
 pub mod Ends
 pub mod Octets
 pub mod Lines
+pub mod Cutting

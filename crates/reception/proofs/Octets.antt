@@ -267,17 +267,20 @@ unfolding lineMarks
 single-octet M st octet = append-nil (octetMarks M st octet)
 
 -- "At most three records come from one line octet."
-three : (s : Settings) (M : ℕ) (st : Receiver) (octet : ℕ) (w : Written) → 7 ≤ M → marksDone s w (octetMarks M st octet) .count ≤ w .count + 3
-unfolding marksDone happenings
-three s M st octet w h =
+pub three : (s : Settings) (M : ℕ) (st : Receiver) (octet : ℕ) (o : Office) → 7 ≤ M → length (happenings s o (octetMarks M st octet)) ≤ 3
+unfolding happenings
+three s M st octet o h =
     let fs = findings M st (bitsOf 8 octet) in
-    let o = w .office in
     let a : length (happenings s o (octetMarks M st octet)) ≡ length (happenings s o (map found fs)) + length (happenings s (officeAfter s o (map found fs)) (octetEnd ∷ [])) =
     ap length (happenings-append s (map found fs) (octetEnd ∷ []) o)
     ∙ length-append (happenings s o (map found fs)) (happenings s (officeAfter s o (map found fs)) (octetEnd ∷ [])) in
     let b : length (happenings s (officeAfter s o (map found fs)) (octetEnd ∷ [])) ≡ length (happens s (officeAfter s o (map found fs)) octetEnd) =
     ap length (append-nil (happens s (officeAfter s o (map found fs)) octetEnd)) in
     omega (arith, found-count s fs o, one-at-most s (officeAfter s o (map found fs)) octetEnd, two-findings M st octet h)
+
+three-more : (s : Settings) (M : ℕ) (st : Receiver) (octet : ℕ) (w : Written) → 7 ≤ M → marksDone s w (octetMarks M st octet) .count ≤ w .count + 3
+unfolding marksDone
+three-more s M st octet w h = omega (arith, three s M st octet (w .office) h)
 
 module _ (s : Settings) (line : Line) (area₀ : List ℕ) (octet : ℕ) (w : Written) (area pool descriptors out : List ℕ) (cur : Line) (rest left : ℕ) (q : Progress)
     (b : Between s line area₀ octet w area pool descriptors out cur rest left q) (z : left ≡ 0) where
@@ -301,7 +304,7 @@ module _ (s : Settings) (line : Line) (area₀ : List ℕ) (octet : ℕ) (w : Wr
         ready =
             subst (Ready s) (sym e)
             (ready-kept s (holding q pool descriptors out) (octetEnd ∷ []) (b .limits) (one-more {m = octetEnd} (omega arith) none-left) (b .ready));
-        few = subst (λ (x : Written). x .count ≤ w .count + 3) (sym whole) (three s (s .m) (decode line area₀) octet w (b .longest .0));
+        few = subst (λ (x : Written). x .count ≤ w .count + 3) (sym whole) (three-more s (s .m) (decode line area₀) octet w (b .longest .0));
       }
     where
       whole : holding r pool descriptors out′ ≡ marksDone s w (octetMarks (s .m) (decode line area₀) octet)

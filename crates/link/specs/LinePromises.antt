@@ -1,0 +1,60 @@
+-- What is promised of receive. The proofs are in proofs/Cutting.antt.
+use Prim.Native.Nat.{ℕ, _*_}
+use mathlib.Core.Path.{_≡_}
+use mathlib.Core.Bool.{true}
+use mathlib.Core.List.{List, [], _++_}
+use lib.ListN.{take}
+use Rattle.board.specs.declared.Settings.{Settings}
+use Rattle.board.specs.declared.Link.{Link}
+use Rattle.units.specs.Promises.{Sums}
+use Rattle.link.specs.Refusals.{rising, receiveFaults, openNumber, receiveNumber}
+use Rattle.link.specs.Calls.{openAnswer, commandAnswer}
+use Rattle.link.specs.Receive.{ReceiveOutcome, receiveAnswer}
+
+-- D1.2: the faults are asked in rising number, and a refused call changes nothing.
+abbrev pub ReceiveRises : Type 0
+ReceiveRises = (l : Link) (octets pool descriptors records : List ℕ) → rising 0 (receiveFaults l octets pool descriptors records) ≡ true
+
+abbrev pub RefusedReceive : Type 0
+RefusedReceive =
+    (l : Link) (octets pool descriptors records : List ℕ) → (receiveNumber l octets pool descriptors records ≡ 0 → ⊥)
+    → receiveAnswer l octets pool descriptors records
+    ≡ record {
+      number = receiveNumber l octets pool descriptors records;
+      link = l;
+      count = 0;
+      pool = pool;
+      descriptors = descriptors;
+      records = records;
+    }
+
+-- the records that a call wrote
+abbrev pub written : ReceiveOutcome → List ℕ
+written o = take (16 * o .count) (o .records)
+
+-- Receiving a line in one call, or a first part and then the rest with the same memory, gives the same link, the same memory and the
+-- same records in order.
+abbrev pub LineCut : Type 0
+LineCut =
+    (l : Link) (xs ys pool descriptors records records₁ records₂ : List ℕ)
+    → let one = receiveAnswer l (xs ++ ys) pool descriptors records in
+    let first = receiveAnswer l xs pool descriptors records₁ in
+    let second = receiveAnswer (first .link) ys (first .pool) (first .descriptors) records₂ in
+    one .number ≡ 0 → first .number ≡ 0 → second .number ≡ 0
+    → (one .link ≡ second .link) × (one .pool ≡ second .pool) × (one .descriptors ≡ second .descriptors) × (written one ≡ written first ++ written second)
+
+-- "The good count is their sum modulo 65,536": so at opening, and each call keeps it.
+abbrev pub SumAtOpen : Type 0
+SumAtOpen = (l : Link) (s : Settings) (pool descriptors : List ℕ) → openNumber l s pool descriptors ≡ 0 → Sums (openAnswer l s pool descriptors .link .counts)
+
+abbrev pub SumKeptByReceive : Type 0
+SumKeptByReceive = (l : Link) (octets pool descriptors records : List ℕ) → Sums (l .counts) → Sums (receiveAnswer l octets pool descriptors records .link .counts)
+
+abbrev pub SumKeptByCommand : Type 0
+SumKeptByCommand = (l : Link) (command : ℕ) → Sums (l .counts) → Sums (commandAnswer l command .link .counts)
+
+-- P1: no line octets, no record.
+abbrev pub NoOctets : Type 0
+NoOctets =
+    (l : Link) (pool descriptors records : List ℕ)
+    → (receiveAnswer l [] pool descriptors records .count ≡ 0) × (receiveAnswer l [] pool descriptors records .records ≡ records)
