@@ -37,7 +37,7 @@ unfolding receiveAnswer
 refused-receive l octets pool descriptors records z = refused _ _ _ z
 
 -- ---- a call answered 0 has no fault, and gives what is received
-answered : (l : Link) (octets pool descriptors records : List ℕ) → receiveAnswer l octets pool descriptors records .number ≡ 0
+pub answered : (l : Link) (octets pool descriptors records : List ℕ) → receiveAnswer l octets pool descriptors records .number ≡ 0
     → (receiveNumber l octets pool descriptors records ≡ 0) × (receiveAnswer l octets pool descriptors records ≡ received l octets pool descriptors records)
 unfolding receiveAnswer
 answered l octets pool descriptors records e = go (eqb (receiveNumber l octets pool descriptors records) 0) refl
@@ -50,7 +50,7 @@ answered l octets pool descriptors records e = go (eqb (receiveNumber l octets p
         absurd (z (sym (ap (λ (x : ReceiveOutcome). x .number) (refused-receive l octets pool descriptors records z)) ∙ e))
 
 -- the records that it wrote are those of the line
-wrote : (l : Link) (octets pool descriptors records : List ℕ) → Receivable l octets pool descriptors records
+pub wrote : (l : Link) (octets pool descriptors records : List ℕ) → Receivable l octets pool descriptors records
     → written (received l octets pool descriptors records) ≡ lineRecords (l .settings) (boardOf l pool descriptors) octets
 wrote l octets pool descriptors records r =
     let b = boardOf l pool descriptors in

@@ -1,8 +1,8 @@
 -- The laws of the desk that specs/Promises.antt states: each holds of every way that a mark can go.
-use Prim.Native.Nat.{ℕ, _+_, _-_, _*_, _/_, _%_, _^_, _≤_, _<_}
-use mathlib.Core.Path.{_≡_, refl, sym, ap, _∙_}
-use mathlib.Core.Bool.{Bool, true, false, _||_}
-use mathlib.Core.List.{List, [], _∷_, _++_}
+use Prim.Native.Nat.{ℕ, _+_, _-_, _*_, _≤_}
+use mathlib.Core.Path.{_≡_, refl, _∙_}
+use mathlib.Core.Bool.{Bool, true, false}
+use mathlib.Core.List.{List, [], _∷_}
 use native.Mathlib.Omega.{arith}
 use borrow.Author.Tests.{eqb-false}
 use lib.Dec.{eqb}
@@ -27,7 +27,7 @@ use Rattle.board.specs.declared.Counts.{Counts}
 use Rattle.records.specs.declared.Happening.{Happening}
 use Rattle.records.specs.Promises.{FirstFive, none}
 use Rattle.records.specs.Promises.{more as five-more}
-use Rattle.units.specs.Marks.{Mark, found, octetEnd}
+use Rattle.units.specs.Marks.{found, octetEnd}
 use Rattle.units.specs.Desk.{Office, Served, office, served, deskOf, firstFive, begins, unitOf, isFree, goodCounts, overCounts, droppedCounts, lostCounts, shortTaken, handOver, byFate, byVerdict, pick, pickℕ, ticks, tickOf, goodUnit, erroredUnit, closedUnit, octetServed, serves, officeAfter, happenings, nextOffice, happens}
 use Rattle.units.specs.Fit.{Fits}
 use Rattle.units.specs.Promises.{FitKept, OneFound, OneAtMost, FirstFives, Sums, SumKept, SumAfter, OfficeAppend, HappeningsAppend}
@@ -122,9 +122,8 @@ module _ (s : Settings) (o : Office) (f : Fits s (o .desk) (o .pool) (o .descrip
       (λ m. stays off m (droppedCounts more) (f .counter))
       (λ m. stays (begins (s .orn) off) m (lostCounts more) (f .counter))
 
-  fit-closed : (u : List Bool) → length u ≤ 2224 → Fit s (closedUnit s o u)
-  fit-closed u h =
-      let w : length (wholeOctets u) ≤ 280 = omega (arith, length-whole u) in
+  fit-closed : (u : List Bool) → length (wholeOctets u) ≤ 280 → Fit s (closedUnit s o u)
+  fit-closed u w =
       each-closed (Fit s) s o u f (λ status kind. fit-errored status kind (wholeOctets u) w) (fit-good (wholeOctets u) w)
 
 -- N's counter stays above zero
@@ -137,7 +136,7 @@ runs n left h l = go (eqb left 1) refl
 
 pub fit-kept : FitKept
 unfolding serves octetServed
-fit-kept s o (found (closed u)) h f = fit-closed s o f u h
+fit-kept s o (found (closed u)) h f = fit-closed s o f u (omega (arith, length-whole u))
 fit-kept s o (found abort) h f = stays s o f (begins (s .itu) (o .desk .counting)) (o .desk .memory) (o .desk .counts) (f .counter)
 fit-kept s o (found long) h f = stays s o f (begins (s .itu) (o .desk .counting)) (o .desk .memory) (o .desk .counts) (f .counter)
 fit-kept s o octetEnd h f =
@@ -145,9 +144,9 @@ fit-kept s o octetEnd h f =
     (o .desk .memory) (o .desk .counts) (runs (s .n) (o .desk .counting .left) (f .reload) (f .counter))
 
 -- ---- a finding is one happening, with five octets
-pub record One (x : Served) : Type 0 where
-  pub one : length (x .happenings) ≡ 1
-  pub five : FirstFive (x .happenings)
+record One (x : Served) : Type 0 where
+  one : length (x .happenings) ≡ 1
+  five : FirstFive (x .happenings)
 
 one-of : (o : Office) (h : Happening) → length (h .first) ≡ 5 → One (served o (h ∷ []))
 one-of o h e = record { one = refl; five = five-more e none }

@@ -7,7 +7,6 @@ use native.Mathlib.Omega.{arith}
 use lib.Dec.{eqb}
 use lib.ListN.{length, take}
 use lib.Seq.{length-take-le}
-use Rattle.filter.specs.declared.Fate.{Fate}
 use Rattle.filter.specs.declared.Fate.the-variants.{HandedOver, Dropped, Lost}
 use Rattle.filter.specs.declared.Settled.{Settled}
 use Rattle.filter.specs.Memory.{settled}

@@ -1,0 +1,2 @@
+-- The cases, shown.
+pub mod Cases
