@@ -4,3 +4,4 @@ pub mod Lines
 pub mod Packing
 pub mod Gathering
 pub mod Whole
+pub mod Writing

@@ -15,7 +15,7 @@ use Rattle.records.specs.Record.{recordOf, watched, recorded, watchAfter, recor
 use Rattle.records.specs.Promises.{FirstFive, none, more, LimitsInRange, MonitorInRange}
 use Rattle.records.proofs.Watching.{watch-append, records-append, records-length}
 use Rattle.records.proofs.Range.{stays-in-range}
-use Rattle.records.proofs.Writing.{sets-append}
+use Rattle.bits.proofs.Writing.{sets-append}
 use Rattle.board.specs.declared.Settings.{Settings}
 use Rattle.units.specs.declared.Desk.{Desk}
 use Rattle.units.specs.declared.Taken.{Taken}

@@ -14,7 +14,8 @@ use Rattle.records.specs.declared.Noted.{Noted}
 use Rattle.records.specs.Happening.{noted}
 use Rattle.records.specs.Record.{recordOf, watched, recorded, watchAfter, recordsOf}
 use Rattle.records.specs.Promises.{none, more, SixteenOctets, OctetThirteen, CountAfter, NoEvent, WatchAppend, RecordsAppend, RecordsLength, RecordByRecord}
-use Rattle.records.proofs.Writing.{sets-append, ending}
+use Rattle.bits.proofs.Writing.{sets-append}
+use Rattle.records.proofs.Writing.{ending}
 use Rattle.records.proofs.Noting.{noted-none}
 
 pub sixteen-octets : SixteenOctets

@@ -3,13 +3,14 @@ use Prim.Native.Nat.{ℕ, zero, suc, _+_, _-_, _*_, _/_, _%_, _^_, _≤_, _<_}
 use mathlib.Core.Path.{_≡_, refl, sym, ap, ap₂, subst, _∙_}
 use mathlib.Core.Bool.{Bool, true, false}
 use mathlib.Core.List.{List, [], _∷_, _++_, append-nil, append-assoc}
-use native.Mathlib.Nat.{add-zero, suc-add, add-suc}
+use native.Mathlib.Nat.{add-zero}
 use native.Mathlib.Omega.{arith}
 use lib.ListN.{length, set, length-append}
 use lib.Seq.{sets, length-sets}
 use Rattle.bits.specs.Octets.{bitsOf, lineBits, octetOf, wholeOctets, bitsAfter, worth}
 use Rattle.bits.proofs.Digits.{length-bitsOf, all-back, value-back, octetOf-lt, octetOf-snoc, snoc-length}
 use Rattle.bits.proofs.Whole.{length-whole, length-after, whole-few, after-few, whole-eight, after-eight, whole-append, after-append, together}
+use Rattle.bits.proofs.Writing.{sets-append}
 use Rattle.sending.specs.declared.Tx.{Tx}
 use Rattle.sending.specs.Packing.{waiting, octetsOut, stillWaiting, afterBits, written, Puts, Ready, Room}
 use Rattle.sending.specs.Promises.{NothingLost}
@@ -53,11 +54,6 @@ module _ (t : Tx) (xs ys : List Bool) (ones : ℕ) where
       let a : t .at + length (octetsOut t xs) + length (octetsOut (afterBits t xs ones) ys) ≡ t .at + length (octetsOut t (xs ++ ys)) =
       omega (arith, ap length out-append, length-append (octetsOut t xs) (octetsOut (afterBits t xs ones) ys)) in
       ap₂ {C = Tx} (λ (k : ℕ) (w : List Bool). record { at = k; count = length w; wait = octetOf w; ones = end }) a (sym wait-append)
-
-sets-append : (a b l : List ℕ) (i : ℕ) → sets l i (a ++ b) ≡ sets (sets l i a) (i + length a) b
-sets-append [] b l i = ap (λ (k : ℕ). sets l k b) (sym (add-zero i))
-sets-append (x ∷ a) b l i =
-    sets-append a b (set l i x) (suc i) ∙ ap (λ (k : ℕ). sets (sets (set l i x) (suc i) a) k b) (suc-add i (length a) ∙ sym (add-suc i (length a)))
 
 pub written-append : (out : List ℕ) (t : Tx) (xs ys : List Bool) (ones : ℕ) → written (written out t xs) (afterBits t xs ones) ys ≡ written out t (xs ++ ys)
 written-append out t xs ys ones =
