@@ -1,0 +1,4 @@
+// lineview on a longer line.
+fn main() {
+    viewing::view_input();
+}

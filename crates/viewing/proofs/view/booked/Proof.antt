@@ -1,0 +1,41 @@
+-- `viewing::view::booked` meets its contract: opened, then command 2.
+use Rattle.viewing.proofs.Views.{booked-is}
+use borrow.Author.Needs.{needs}
+use Rattle.viewing.proofs.view.booked.Statement.{statement}
+use Rattle.viewing.proofs.view.booked.Tie as tie
+
+new-requires : tie.Need-new-requires
+new-requires c κs = search needs
+
+settings-requires : tie.Need-settings-requires
+settings-requires c κs = search needs
+
+open-requires : tie.Need-open-requires
+open-requires c κs = search needs
+
+command-requires : tie.Need-command-requires
+command-requires c κs = search needs
+
+same-length : tie.Need-same-length
+same-length c = search needs
+
+same-length-2 : tie.Need-same-length-2
+same-length-2 c = search needs
+
+returns : tie.Need-returns
+returns c =
+    let o = c .before .before .before .before .before .before in
+    let a = c .before .before .before .before .before .before .before .before .before .before .before .before .before .args in
+    booked-is _ _ (a .pool .now) (a .descriptors .now) _ (c .before .command .result) (o .before .before .before .before .new .ensures) (o .before .before .before .settings .ensures) (o .«open» .ensures) (c .before .command .ensures)
+
+pub booked-spec : {M : Type 1} → statement M
+booked-spec =
+    tie.close
+    (tie.spec
+    new-requires
+    settings-requires
+    open-requires
+    command-requires
+    same-length
+    same-length-2
+    returns)

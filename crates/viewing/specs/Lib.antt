@@ -1,0 +1,3 @@
+-- The program `lineview`.
+pub mod View
+pub mod Promises
