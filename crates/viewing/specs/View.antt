@@ -1,7 +1,7 @@
 -- "opens row 1 with 16 slots, the switches off and the mask all ones, starts the failure monitor, feeds one octet at a time, hands back
 -- filled slots at once"
 use Prim.Native.Nat.{ℕ, zero, suc, _*_}
-use mathlib.Core.Bool.{true, false}
+use mathlib.Core.Bool.{false}
 use mathlib.Core.List.{List, [], _∷_}
 use lib.ListN.{take, replicate}
 use Rattle.bits.specs.Machine.{run, outs}

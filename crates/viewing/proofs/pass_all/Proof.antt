@@ -1,11 +1,11 @@
--- `viewing::pass_all` is safe and ends: an octet less is left after each turn.
+-- `viewing::pass_all` meets its contract: the octets left, fed from here, make up all of them.
 use Prim.Native.Nat.{_-_, _≤_}
 use mathlib.Core.Path.{_≡_, sym, _∙_}
 use mathlib.Core.Bool.{true, false≢true}
 use lib.ListN.{length, drop}
 use native.Mathlib.Omega.{arith}
 use Rattle.viewing.proofs.Views.{octet-more, all-fed}
-use Rattle.viewing.specs.View.{Held, allPassed}
+use Rattle.viewing.specs.View.{allPassed}
 use borrow.Author.Needs.{needs}
 use Rattle.viewing.proofs.pass_all.Statement.{statement}
 use Rattle.viewing.proofs.pass_all.Tie as tie

@@ -1,10 +1,10 @@
 -- `viewing::view::hand_back_filled` meets its contract: the slots left, handed back from here, make up all sixteen.
-use Prim.Native.Nat.{ℕ, _-_, _≤_}
-use mathlib.Core.Path.{_≡_, refl, sym, ap, subst, _∙_}
+use Prim.Native.Nat.{_-_, _≤_}
+use mathlib.Core.Path.{_≡_, refl, _∙_}
 use native.Mathlib.Omega.{arith}
 use lib.ListN.{length}
 use borrow.Author.Needs.{needs}
-use Rattle.viewing.specs.View.{Held, handedFrom, filledBack}
+use Rattle.viewing.specs.View.{handedFrom, filledBack}
 use Rattle.viewing.proofs.Views.{slot-more, all-back}
 use Rattle.viewing.proofs.view.hand_back_filled.Statement.{statement}
 use Rattle.viewing.proofs.view.hand_back_filled.Tie as tie
