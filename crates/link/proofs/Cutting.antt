@@ -61,7 +61,7 @@ wrote l octets pool descriptors records r =
     ∙ take-at rs (drop (0 + length rs) records) (16 * length (lineHappenings (l .settings) b octets)) n
 
 -- the link that holds a board gives that board back
-board-back : (l : Link) (b : Board) → length (b .receiver .gathered) ≤ 8 * 279 → boardOf (linkOf l b) (b .office .pool) (b .office .descriptors) ≡ b
+pub board-back : (l : Link) (b : Board) → length (b .receiver .gathered) ≤ 8 * 279 → boardOf (linkOf l b) (b .office .pool) (b .office .descriptors) ≡ b
 board-back l b h =
     let g = unpack 279 (b .receiver .gathered) h in
     λ i. record { receiver = record { run = b .receiver .run; hunting = b .receiver .hunting; gathered = g i }; office = b .office; watch = b .watch }

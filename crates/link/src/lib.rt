@@ -16,7 +16,7 @@ pub struct Answer {
 }
 
 // A refusal's number where its fault is found, else what the faults after it give.
-fn refuse(found: bool, number: u8, rest: u8) -> u8
+pub fn refuse(found: bool, number: u8, rest: u8) -> u8
     ensures { λ r. ⌜ r ≡ pick found number rest ⌝ }
 {
     if found { number } else { rest }

@@ -112,14 +112,30 @@ unit-closed : (u : List Bool) → 0 < length u → unit u ≡ closed u ∷ []
 unit-closed [] h = absurd (omega arith)
 unit-closed (b ∷ u) h = refl
 
--- ---- a unit on the line
-pub read-back : ReadBack
-read-back M u h k =
+-- ---- a unit on the line: its last bit closes it, and nothing is found before that bit
+pub record ClosesLast (M : ℕ) (u : List Bool) : Type 0 where
+  pub quiet : List Bool
+  pub is : onLine u ≡ quiet ++ (false ∷ [])
+  pub nothing : findings M flagged quiet ≡ []
+  pub last : stepBit M (after M flagged quiet) false ≡ (flagged, closed u ∷ [])
+
+pub closes-last : (M : ℕ) (u : List Bool) → 0 < length u → length u ≤ 8 * M → ClosesLast M u
+closes-last M u h k =
     let q = quietly-append M flagged (inside (onesOver 0 u) u) (inside 6 (u ++ seven)) (stuffed 0 u) seven (bits-back M 0 u [] (omega arith) (omega arith))
     (seven-read M (onesOver 0 u) u (over-le 0 u (omega arith)) (omega arith)) in
-    let e : onLine u ≡ (stuffed 0 u ++ seven) ++ (false ∷ []) = sym (append-assoc (stuffed 0 u) seven (false ∷ [])) in
-    let s : stepBit M (after M flagged (stuffed 0 u ++ seven)) false ≡ (flagged, unit u) = ap (λ (x : Receiver). stepBit M x false) (q .state) ∙ flag-closes M u in (
-      ap (after M flagged) e ∙ run-append (next M) (stuffed 0 u ++ seven) (false ∷ []) flagged ∙ ap (λ (st : Receiver × List Finding). st .0) s,
-      ap (findings M flagged) e ∙ outs-append (next M) (finds M) (stuffed 0 u ++ seven) (false ∷ []) flagged
-          ∙ ap₂ (λ (a b : List Finding). a ++ b) (q .nothing) (ap (λ (st : Receiver × List Finding). st .1 ++ []) s ∙ append-nil (unit u) ∙ unit-closed u h),
+    record {
+      quiet = stuffed 0 u ++ seven;
+      is = sym (append-assoc (stuffed 0 u) seven (false ∷ []));
+      nothing = q .nothing;
+      last =
+          ap (λ (x : Receiver). stepBit M x false) (q .state) ∙ flag-closes M u
+          ∙ ap {B = Receiver × List Finding} (λ (fs : List Finding). (flagged, fs)) (unit-closed u h);
+    }
+
+pub read-back : ReadBack
+read-back M u h k =
+    let c = closes-last M u h k in (
+      ap (after M flagged) (c .is) ∙ run-append (next M) (c .quiet) (false ∷ []) flagged ∙ ap (λ (st : Receiver × List Finding). st .0) (c .last),
+      ap (findings M flagged) (c .is) ∙ outs-append (next M) (finds M) (c .quiet) (false ∷ []) flagged
+          ∙ ap₂ (λ (a b : List Finding). a ++ b) (c .nothing) (ap (λ (st : Receiver × List Finding). st .1 ++ []) (c .last)),
     )

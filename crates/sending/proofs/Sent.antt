@@ -25,7 +25,7 @@ use Rattle.sending.proofs.Stuffs.{unit-bits}
 use Rattle.sending.proofs.ReadBack.{read-back}
 
 -- a unit of content and its check octets, sent after a flag, is read back
-read-back-unit : (M : ℕ) (content : List ℕ) → length content + 2 ≤ M
+pub read-back-unit : (M : ℕ) (content : List ℕ) → length content + 2 ≤ M
     → (after M flagged (unitLine content) ≡ flagged) × (findings M flagged (unitLine content) ≡ closed (unitBits content) ∷ [])
 unfolding unitLine
 read-back-unit M content h = read-back M (unitBits content) (omega (arith, unit-bits content)) (omega (arith, unit-bits content))

@@ -1,4 +1,5 @@
 -- Sending: stuffing, flags, and packing into whole octets.
 pub mod Stuffing
 pub mod Packing
+pub mod Stream
 pub mod Promises

@@ -1,0 +1,89 @@
+-- What send and fill put behind the bits that wait, and what they answer.
+use Prim.Native.Nat.{ℕ}
+use mathlib.Core.Bool.{Bool, true, false}
+use mathlib.Core.List.{List, [], _∷_, _++_}
+use lib.Bits.{bitOr}
+use lib.Dec.{eqb}
+use lib.ListN.{length, take}
+use lib.Seq.{sets}
+use Rattle.bits.specs.Octets.{octetOf}
+use Rattle.sending.specs.declared.Tx.{Tx}
+use Rattle.sending.specs.Stuffing.{flag, unitLine}
+use Rattle.sending.specs.Packing.{waiting, octetsOut, stillWaiting}
+use Rattle.board.specs.declared.Transmitter.{Transmitter}
+use Rattle.board.specs.declared.Link.{Link}
+use Rattle.link.specs.Refusals.{pick}
+use Rattle.output.specs.Refusals.{sendNumber, fillNumber}
+
+pub record OutputOutcome : Type 0 where
+  pub number : ℕ
+  pub link : Link
+  pub count : ℕ
+  pub output : List ℕ
+
+-- the sender at the start of an output area: "up to seven bits wait in the link"
+abbrev pub sender : Transmitter → Tx
+sender t = record { at = 0; count = t .count; wait = t .wait; ones = 0 }
+
+-- "The first output of a booking begins with a flag."
+abbrev pub firstFlag : Bool → List Bool
+firstFlag true = []
+firstFlag false = flag
+
+unfoldable pub unitOut : Transmitter → List ℕ → List Bool
+unitOut t content = firstFlag (t .flagged) ++ unitLine content
+
+-- "Fill sends the first two octets of the last content sent, then an octet 0. Before any content it puts out one flag only, [..] whether or
+-- not a flag has gone before"
+abbrev pub fillIn : List ℕ → List ℕ
+fillIn last = last ++ (0 ∷ [])
+
+unfoldable pub fillOut : Transmitter → List Bool
+fillOut t = pick (t .sent) (unitOut t (fillIn (t .last))) flag
+
+-- "8 fill-in sent", "and no event bit is set" for a flag alone
+abbrev pub fillEvent : Bool → ℕ
+fillEvent true = 256
+fillEvent false = 0
+
+-- the link with so many bits waiting in its waiting octet, and an event bit more
+abbrev pub linkSent : Link → ℕ → ℕ → Bool → List ℕ → ℕ → Link
+linkSent l count wait sent last event =
+    record {
+      opened = l .opened;
+      settings = l .settings;
+      line = l .line;
+      counting = l .counting;
+      monitor = l .monitor;
+      memory = l .memory;
+      slots = l .slots;
+      counts = l .counts;
+      events = bitOr (l .events) event;
+      transmitter = record { flagged = true; count = count; wait = wait; sent = sent; last = last };
+    }
+
+-- "Whole octets go out and their number is returned; the rest of the area is unchanged"
+abbrev pub putOut : Link → List Bool → Bool → List ℕ → ℕ → List ℕ → OutputOutcome
+putOut l bits sent last event output =
+    let t = sender (l .transmitter) in
+    record {
+      number = 0;
+      link = linkSent l (length (stillWaiting t bits)) (octetOf (stillWaiting t bits)) sent last event;
+      count = length (octetsOut t bits);
+      output = sets output 0 (octetsOut t bits);
+    }
+
+abbrev pub notSent : ℕ → Link → List ℕ → OutputOutcome
+notSent n l output = record { number = n; link = l; count = 0; output = output }
+
+-- "7 sent"
+unfoldable pub sendAnswer : Link → List ℕ → List ℕ → OutputOutcome
+sendAnswer l content output =
+    pick (eqb (sendNumber l content output) 0) (putOut l (unitOut (l .transmitter) content) true (take 2 content) 128 output)
+    (notSent (sendNumber l content output) l output)
+
+unfoldable pub fillAnswer : Link → List ℕ → OutputOutcome
+fillAnswer l output =
+    pick (eqb (fillNumber l output) 0)
+    (putOut l (fillOut (l .transmitter)) (l .transmitter .sent) (l .transmitter .last) (fillEvent (l .transmitter .sent)) output)
+    (notSent (fillNumber l output) l output)

@@ -1,0 +1,32 @@
+-- The refusals of send and fill, in rising number.
+use Prim.Native.Nat.{ℕ}
+use mathlib.Core.Bool.{not, _||_}
+use mathlib.Core.List.{List, [], _∷_}
+use lib.Dec.{ltb}
+use lib.ListN.{length}
+use Rattle.board.specs.declared.Link.{Link}
+use Rattle.board.specs.Order.{malformed}
+use Rattle.link.specs.Refusals.{pick, Fault, fault, first}
+
+-- "9 output area under 336 octets"
+abbrev pub fillFaults : Link → List ℕ → List Fault
+fillFaults l output = fault (malformed l) 1 ∷ fault (not (l .opened)) 2 ∷ fault (ltb (length output) 336) 9 ∷ []
+
+-- "10 content not 3 to 276 octets"
+abbrev pub sendFaults : Link → List ℕ → List ℕ → List Fault
+sendFaults l content output =
+    fault (malformed l) 1
+    ∷ fault (not (l .opened)) 2
+    ∷ fault (ltb (length output) 336) 9
+    ∷ fault (ltb (length content) 3 || ltb 276 (length content)) 10
+    ∷ []
+
+unfoldable pub fillNumber : Link → List ℕ → ℕ
+fillNumber l output = first (fillFaults l output)
+
+unfoldable pub sendNumber : Link → List ℕ → List ℕ → ℕ
+sendNumber l content output = first (sendFaults l content output)
+
+-- the same with the faults that both calls have asked once, before those of the content
+abbrev pub sharedNumber : Link → List ℕ → ℕ → ℕ
+sharedNumber l output rest = pick (malformed l) 1 (pick (not (l .opened)) 2 (pick (ltb (length output) 336) 9 rest))

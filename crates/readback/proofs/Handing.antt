@@ -1,0 +1,172 @@
+-- A desk that meets nothing but good units with a free slot for each: they are handed over one after the other.
+use Prim.Native.Nat.{ℕ, suc, _+_, _≤_, _<_}
+use mathlib.Core.Path.{_≡_, refl, sym, ap, _∙_}
+use mathlib.Core.Bool.{Bool, true, false, cond}
+use mathlib.Core.List.{List, [], _∷_, _++_, map}
+use mathlib.Core.Logic.{_≢_}
+use native.Mathlib.Omega.{arith}
+use borrow.Author.Tests.{eq-eqb, eqb-true, eqb-false}
+use lib.Bits.{bitOr}
+use lib.Dec.{eqb}
+use lib.ListN.{length}
+use Rattle.bits.specs.Octets.{bitsOf, lineBits}
+use Rattle.bits.specs.Machine.{outs, outs-append}
+use Rattle.framing.specs.Delimitation.{Receiver, Finding, closed, next, finds, findings}
+use Rattle.sending.specs.Stuffing.{unitBits}
+use Rattle.sending.proofs.Sent.{sent-good, sent-octets}
+use Rattle.filter.specs.Memory.{emptyMemory, settled}
+use Rattle.memory.specs.Lent.{statusOf, nextSlot}
+use Rattle.memory.proofs.Slots.{descriptor-kept}
+use Rattle.monitor.specs.declared.Mode.the-variants.{Off}
+use Rattle.monitor.specs.declared.Limits.{Limits}
+use Rattle.monitor.specs.Monitor.{started, step}
+use Rattle.board.specs.declared.Settings.{Settings}
+use Rattle.board.specs.declared.Counting.{Counting}
+use Rattle.records.specs.declared.Happening.{Happening}
+use Rattle.records.specs.declared.Watch.{Watch}
+use Rattle.records.specs.Happening.{noted}
+use Rattle.records.specs.Record.{watchAfter, recordsOf}
+use Rattle.units.specs.Marks.{Mark, found, octetEnd, octetReceiver, lineMarks}
+use Rattle.units.specs.Desk.{Office, Served, served, deskOf, ticks, tickOf, goodCounts, overCounts, handOver, goodUnit, closedUnit, octetServed, serves, officeAfter, happenings}
+use Rattle.readback.specs.Shelf.{unitOctets, Shelf, shelved, handed, shelfRecord, shelfAfter, shelfRecords}
+use Rattle.readback.specs.Streams.{Allowed, AllAllowed, more}
+use Rattle.readback.proofs.Pieces.{found as closings}
+
+-- ---- the findings among marks
+abbrev pub foundIn : List Mark → List Finding
+foundIn [] = []
+foundIn (found f ∷ ms) = f ∷ foundIn ms
+foundIn (octetEnd ∷ ms) = foundIn ms
+
+-- those of one octet's marks, with more after them
+found-octet : (fs : List Finding) (ms : List Mark) → foundIn ((map found fs ++ (octetEnd ∷ [])) ++ ms) ≡ fs ++ foundIn ms
+found-octet [] ms = refl
+found-octet (f ∷ fs) ms = ap {B = List Finding} (λ x. f ∷ x) (found-octet fs ms)
+
+-- those of a line's marks are what its bits find
+pub found-line : (M : ℕ) (xs : List ℕ) (r : Receiver) → foundIn (lineMarks M r xs) ≡ findings M r (lineBits xs)
+unfolding lineMarks lineBits
+found-line M [] r = refl
+found-line M (x ∷ xs) r =
+    found-octet (findings M r (bitsOf 8 x)) (lineMarks M (octetReceiver M r x) xs)
+    ∙ ap (λ (fs : List Finding). findings M r (bitsOf 8 x) ++ fs) (found-line M xs (octetReceiver M r x))
+    ∙ sym (outs-append (next M) (finds M) (bitsOf 8 x) (lineBits xs) r)
+
+-- ---- the desk's slots
+abbrev pub shelfOf : Office → Shelf
+shelfOf o = record { next = o .desk .slots .next; pool = o .pool; descriptors = o .descriptors; good = o .desk .counts .good }
+
+-- the next n slots are empty, round the ring
+pub record Free (k n : ℕ) (x : Shelf) : Type 0 where
+  pub few : n ≤ k
+  pub below : 1 ≤ n → x .next < k
+  pub ahead : (j : ℕ) → x .next ≤ j → j < x .next + n → j < k → statusOf (x .descriptors) j ≡ 32768
+  pub round : (j : ℕ) → j + k < x .next + n → statusOf (x .descriptors) j ≡ 32768
+
+abbrev nextAt : ℕ → Shelf → Shelf
+nextAt j x = record { next = j; pool = x .pool; descriptors = x .descriptors; good = x .good }
+
+free-kept : (k n : ℕ) (x : Shelf) (c : List ℕ) → Free k (suc n) x → Free k n (shelved k x c)
+unfolding nextSlot
+free-kept k n x c f = go (eqb (x .next + 1) k) refl
+  where
+    few : suc n ≤ k
+    few = f .few
+
+    below : x .next < k
+    below = f .below (omega arith)
+
+    other : (j : ℕ) → j ≢ x .next → statusOf (shelved k x c .descriptors) j ≡ statusOf (x .descriptors) j
+    other j h = descriptor-kept (x .descriptors) (x .next) j 0 (length (unitOctets c)) (omega arith) .0
+
+    go : (b : Bool) → eqb (x .next + 1) k ≡ b → Free k n (nextAt (cond b 0 (x .next + 1)) (shelved k x c))
+    go true e =
+        let q = eqb-true (x .next + 1) k e in
+        record {
+          few = omega (arith, few);
+          below = λ h. omega (arith, few);
+          ahead = λ j l h m. other j (omega (arith, few, q)) ∙ f .round j (omega (arith, q));
+          round = λ j h. absurd (omega (arith, few));
+        }
+    go false e =
+        let q = eqb-false (x .next + 1) k e in
+        record {
+          few = omega (arith, few);
+          below = λ h. omega (arith, below, q);
+          ahead = λ j l h m. other j (omega arith) ∙ f .ahead j (omega arith) (omega arith) m;
+          round = λ j h. other j (omega (arith, few)) ∙ f .round j (omega arith);
+        }
+
+-- ---- one unit
+abbrev over : Settings → Office → List ℕ → Served
+over s o c =
+    let d = o .desk in
+    let off : Counting = record { on = false; left = d .counting .left } in
+    served (handOver (s .k) 0 (unitOctets c) o (deskOf off emptyMemory (d .slots .next) (overCounts (goodCounts (d .counts))))) (handed (shelfOf o) c ∷ [])
+
+handed-over : (s : Settings) (o : Office) (c : List ℕ) → s .filter ≡ false → Allowed (s .m) c
+    → statusOf (o .descriptors) (o .desk .slots .next) ≡ 32768
+    → closedUnit s o (unitBits c) ≡ over s o c
+unfolding closedUnit goodUnit settled
+handed-over s o c e a f =
+    rw (sent-good c (a .least), sent-octets c (a .octets), e, eq-eqb (statusOf (o .descriptors) (o .desk .slots .next)) 32768 f)
+
+-- ---- units in order
+abbrev pub handeds : ℕ → Shelf → List (List ℕ) → List Happening
+handeds k = outs (shelved k) (λ x c. handed x c ∷ [])
+
+pub record Handed (s : Settings) (o : Office) (ms : List Mark) (cs : List (List ℕ)) : Type 0 where
+  pub all : happenings s o ms ≡ handeds (s .k) (shelfOf o) cs
+  pub shelf : shelfOf (officeAfter s o ms) ≡ shelfAfter (s .k) (shelfOf o) cs
+  pub still : officeAfter s o ms .desk .counting .on ≡ false
+
+no-tick : (due on : Bool) (h : Happening) → on ≡ false → ticks due on h ≡ []
+no-tick true on h e = rw e
+no-tick false on h e = rw e
+
+module _ (s : Settings) (off : s .filter ≡ false) where
+  pub all-handed : (ms : List Mark) (cs : List (List ℕ)) (o : Office) → AllAllowed (s .m) cs → Free (s .k) (length cs) (shelfOf o)
+      → o .desk .counting .on ≡ false → foundIn ms ≡ closings cs → Handed s o ms cs
+  unfolding happenings officeAfter shelfAfter serves octetServed
+  all-handed [] [] o a f q e = record { all = refl; shelf = refl; still = q }
+  all-handed [] (c ∷ cs) o a f q e = absurd (omega (arith, ap length e))
+  all-handed (octetEnd ∷ ms) cs o a f q e =
+      let quiet = no-tick (eqb (o .desk .counting .left) 1) (o .desk .counting .on) (tickOf (o .desk .counts .good)) q in
+      let r = all-handed ms cs (octetServed s o .office) a f q e in
+      record {
+        all = ap (λ (hs : List Happening). hs ++ happenings s (octetServed s o .office) ms) quiet ∙ r .all;
+        shelf = r .shelf;
+        still = r .still;
+      }
+  all-handed (found g ∷ ms) [] o a f q e = absurd (omega (arith, ap length e))
+  all-handed (found g ∷ ms) (c ∷ cs) o (more a rest) f q e =
+      let g-is : g ≡ closed (unitBits c) = cc in
+      let ms-are : foundIn ms ≡ closings cs = cc in
+      let empty = f .ahead (o .desk .slots .next) (omega arith) (omega arith) (f .below (omega arith)) in
+      let is : serves s o (found g) ≡ over s o c = ap (λ (x : Finding). serves s o (found x)) g-is ∙ handed-over s o c off a empty in
+      let r = all-handed ms cs (over s o c .office) rest (free-kept (s .k) (length cs) (shelfOf o) c f) refl ms-are in
+      record {
+        all =
+            ap (λ (x : Served). x .happenings ++ happenings s (x .office) ms) is
+            ∙ ap {B = List Happening} (λ hs. handed (shelfOf o) c ∷ hs) (r .all);
+        shelf = ap (λ (x : Served). shelfOf (officeAfter s (x .office) ms)) is ∙ r .shelf;
+        still = ap (λ (x : Served). officeAfter s (x .office) ms .desk .counting .on) is ∙ r .still;
+      }
+
+-- ---- their records, with the monitor off
+abbrev pub unwatched : ℕ → Watch
+unwatched events = record { monitor = started Off; events = events }
+
+pub handed-records : (k : ℕ) (l : Limits) (cs : List (List ℕ)) (x : Shelf) (events : ℕ)
+    → recordsOf l (unwatched events) (handeds k x cs) ≡ shelfRecords k x cs
+unfolding recordsOf shelfRecords noted step
+handed-records k l [] x events = refl
+handed-records k l (c ∷ cs) x events =
+    ap (λ (rs : List ℕ). shelfRecord x c ++ rs) (handed-records k l cs (shelved k x c) (bitOr (bitOr events 1) 0))
+
+-- and it stays off
+pub handed-unwatched : (k : ℕ) (l : Limits) (cs : List (List ℕ)) (x : Shelf) (events : ℕ)
+    → watchAfter l (unwatched events) (handeds k x cs) .monitor ≡ started Off
+unfolding watchAfter noted step
+handed-unwatched k l [] x events = refl
+handed-unwatched k l (c ∷ cs) x events = handed-unwatched k l cs (shelved k x c) (bitOr (bitOr events 1) 0)

@@ -1,0 +1,13 @@
+-- Proofs of what one link sends and another receives.
+pub mod Gathered
+pub mod Feeding
+pub mod Closing
+pub mod Serving
+pub mod Standing
+pub mod Pieces
+pub mod Handing
+pub mod Stream
+pub mod Ordered
+pub mod Using
+pub mod Turns
+pub mod ReadBack

@@ -1,0 +1,122 @@
+-- A transmitter's line that a fresh booking reads: the units whose closing flag is out are handed over, and nothing else happens.
+use Prim.Native.Nat.{ℕ, zero, suc, _+_, _≤_}
+use mathlib.Core.Path.{_≡_, refl, sym, ap, subst, _∙_}
+use mathlib.Core.Bool.{Bool, true, false}
+use mathlib.Core.List.{List, [], _∷_, _++_}
+use native.Mathlib.Omega.{arith}
+use borrow.Author.Tests.{eqb-true, eqb-false}
+use lib.Dec.{eqb}
+use lib.ListN.{length}
+use Rattle.bits.specs.Octets.{lineBits}
+use Rattle.sending.specs.Stream.{streamLine}
+use Rattle.memory.specs.Lent.{emptyDescriptors}
+use Rattle.memory.proofs.Slots.{empty-each}
+use Rattle.framing.specs.Delimitation.{newReceiver}
+use Rattle.records.specs.declared.Happening.{Happening}
+use Rattle.records.specs.Record.{recordsOf}
+use Rattle.board.specs.declared.Settings.{Settings}
+use Rattle.board.specs.declared.Link.{Link}
+use Rattle.units.specs.Marks.{lineMarks}
+use Rattle.reception.specs.Line.{Board, limitsOf, boardAfter, lineHappenings, lineRecords}
+use Rattle.link.specs.Refusals.{openNumber}
+use Rattle.link.specs.Calls.{Outcome, outcome, openedLink, openAnswer}
+use Rattle.link.proofs.Answers.{done, refused}
+use Rattle.readback.specs.Feeding.{Held, board, heldAfter, recordsFed, octetsFed, Answered}
+use Rattle.readback.specs.Shelf.{Shelf, shelfAfter, shelfRecords}
+use Rattle.readback.specs.Reading.{FedAsOne}
+use Rattle.readback.specs.Streams.{AllAllowed, none, more, allButLast, closedOut, emptyShelf, StreamRead}
+use Rattle.readback.proofs.Feeding.{fed-as-one}
+use Rattle.readback.proofs.Pieces.{stream-found}
+use Rattle.readback.proofs.Handing.{found-line, Free, Handed, all-handed, unwatched, handed-records}
+
+-- ---- a booking just opened
+abbrev pub fresh : Settings → List ℕ → Held
+fresh s pool = record { link = openedLink s; pool = pool; descriptors = emptyDescriptors (s .k) }
+
+module _ (l : Link) (s : Settings) (pool descriptors : List ℕ) where
+  abbrev number : ℕ
+  number = openNumber l s pool descriptors
+
+  abbrev yes-opened : Outcome
+  yes-opened = outcome 0 (openedLink s) pool (emptyDescriptors (s .k))
+
+  pub opened : openAnswer l s pool descriptors .number ≡ 0 → openAnswer l s pool descriptors ≡ yes-opened
+  unfolding openAnswer
+  opened e = go (eqb number 0) refl
+    where
+      go : (b : Bool) → eqb number 0 ≡ b → openAnswer l s pool descriptors ≡ yes-opened
+      go true q = done number yes-opened (outcome number l pool descriptors) (eqb-true number 0 q)
+      go false q =
+          let z = eqb-false number 0 q in
+          absurd (z (sym (ap (λ (x : Outcome). x .number) (refused number yes-opened (outcome number l pool descriptors) z)) ∙ e))
+
+-- all its slots are empty
+all-free : (k n : ℕ) (pool : List ℕ) → n ≤ k → Free k n (emptyShelf k pool)
+all-free k n pool h =
+    record {
+      few = h;
+      below = λ l. omega arith;
+      ahead = λ j l m below. empty-each k j below .0;
+      round = λ j l. absurd (omega arith);
+    }
+
+-- the units whose closing flag is out are allowed too
+some-allowed : (M : ℕ) (cs : List (List ℕ)) → AllAllowed M cs → AllAllowed M (allButLast cs)
+unfolding allButLast
+some-allowed M [] none = none
+some-allowed M (c ∷ []) (more a none) = none
+some-allowed M (c ∷ d ∷ cs) (more a rest) = more a (some-allowed M (d ∷ cs) rest)
+
+pub closed-allowed : (M n : ℕ) (cs : List (List ℕ)) → AllAllowed M cs → AllAllowed M (closedOut n cs)
+closed-allowed M zero cs a = a
+closed-allowed M (suc n) cs a = some-allowed M cs a
+
+-- ---- what the line does to its board
+module _ (s : Settings) (pool xs : List ℕ) (n : ℕ) (cs : List (List ℕ)) (w : List Bool) where
+  abbrev us : List (List ℕ)
+  us = closedOut (length w) cs
+
+  served : s .filter ≡ false → lineBits xs ++ w ≡ streamLine n cs → length w ≤ 7 → AllAllowed (s .m) cs → length us ≤ s .k
+      → Handed s (board (fresh s pool) .office) (lineMarks (s .m) newReceiver xs) us
+  served off e h a k =
+      all-handed s off (lineMarks (s .m) newReceiver xs) us (board (fresh s pool) .office) (closed-allowed (s .m) (length w) cs a)
+      (all-free (s .k) (length us) pool k) refl (found-line (s .m) xs newReceiver ∙ stream-found (s .m) n cs (lineBits xs) w a e h)
+
+  module _ (is : Handed s (board (fresh s pool) .office) (lineMarks (s .m) newReceiver xs) us) where
+    line-records : lineRecords s (board (fresh s pool)) xs ≡ shelfRecords (s .k) (emptyShelf (s .k) pool) us
+    unfolding lineRecords lineHappenings
+    line-records =
+        ap (λ (hs : List Happening). recordsOf (limitsOf s) (unwatched 0) hs) (is .all)
+        ∙ handed-records (s .k) (limitsOf s) us (emptyShelf (s .k) pool) 0
+
+    line-pool : boardAfter s (board (fresh s pool)) xs .office .pool ≡ shelfAfter (s .k) (emptyShelf (s .k) pool) us .pool
+    unfolding boardAfter
+    line-pool = ap (λ (x : Shelf). x .pool) (is .shelf)
+
+    line-descriptors : boardAfter s (board (fresh s pool)) xs .office .descriptors ≡ shelfAfter (s .k) (emptyShelf (s .k) pool) us .descriptors
+    unfolding boardAfter
+    line-descriptors = ap (λ (x : Shelf). x .descriptors) (is .shelf)
+
+-- ---- the calls
+stream-read-by : FedAsOne → StreamRead
+stream-read-by one l s pool descriptors fs n cs w z off answered e h a k =
+    let us = closedOut (length w) cs in
+    let shelf = shelfAfter (s .k) (emptyShelf (s .k) pool) us in
+    let is = served s pool (octetsFed fs) n cs w off e h a k in
+    subst (λ (o : Outcome).
+    let held : Held = record { link = o .link; pool = o .pool; descriptors = o .descriptors } in
+    Answered held fs
+    → (recordsFed held fs ≡ shelfRecords (s .k) (emptyShelf (s .k) pool) us)
+    × (heldAfter held fs .pool ≡ shelf .pool)
+    × (heldAfter held fs .descriptors ≡ shelf .descriptors))
+    (sym (opened l s pool descriptors z))
+    (λ (x : Answered (fresh s pool) fs).
+    let fed = one (fresh s pool) fs x in (
+      fed .1 ∙ line-records s pool (octetsFed fs) n cs w is,
+      ap (λ (b : Board). b .office .pool) (fed .0) ∙ line-pool s pool (octetsFed fs) n cs w is,
+      ap (λ (b : Board). b .office .descriptors) (fed .0) ∙ line-descriptors s pool (octetsFed fs) n cs w is,
+    ))
+    answered
+
+pub stream-read : StreamRead
+stream-read = stream-read-by fed-as-one

@@ -1,0 +1,189 @@
+-- A link in use refuses no receive of the sizes allowed and stays in use, and what stands in its slots can be read.
+use Prim.Native.Nat.{ℕ, _+_, _*_, _≤_, _<_}
+use mathlib.Core.Path.{_≡_, refl, sym, ap, ap₂, subst, _∙_}
+use mathlib.Core.Bool.{true}
+use mathlib.Core.List.{List, [], _∷_}
+use native.Mathlib.Omega.{arith}
+use lib.ListN.{length, take}
+use borrow.Author.Tests.{eq-eqb, le-ltb, lt-leb}
+use Rattle.bits.specs.Octets.{bitsOf, lineBits}
+use Rattle.bits.proofs.Packing.{packed-nil}
+use Rattle.memory.specs.Lent.{emptyDescriptors, statusOf, lengthOf, slotOf, filled}
+use Rattle.memory.proofs.Slots.{empty-length, filled-front}
+use Rattle.board.specs.declared.Settings.{Settings}
+use Rattle.board.specs.Link.{clearArea}
+use Rattle.board.specs.Order.{noOnes, zeroPast}
+use Rattle.board.proofs.Orders.{InOrder, Ranges, ranges}
+use Rattle.units.specs.Marks.{lineMarks}
+use Rattle.reception.specs.Line.{Board, boardAfter, lineHappenings}
+use Rattle.reception.specs.Writing.{holding, Ready, marksDone}
+use Rattle.reception.proofs.Octets.{ready-kept}
+use Rattle.link.specs.Refusals.{first, fitsMemory, openNumber, readNumber, receiveNumber}
+use Rattle.link.specs.Calls.{Outcome, outcome, openedLink, openAnswer, readPart}
+use Rattle.link.specs.Receive.{ReceiveOutcome, progressOf, linkOf, received, receiveAnswer}
+use Rattle.link.proofs.Answers.{done, openable}
+use Rattle.link.proofs.Kept.{open-number}
+use Rattle.link.proofs.Receiving.{Receivable, receivable, limits, ready}
+use Rattle.readback.specs.Feeding.{Held, board, Feed, answer, fed, heldAfter}
+use Rattle.readback.specs.Feeding.{none as no-calls, more as one-call}
+use Rattle.readback.specs.Using.{InUse, none, more, OpenInUse, StaysInUse, StandsRead}
+use Rattle.readback.proofs.Gathered.{Sound, line-held, line-sound, line-allowed}
+use Rattle.readback.proofs.Feeding.{few-gathered}
+use Rattle.readback.proofs.Ordered.{count-out, orderly, in-range, packed-past, left-most}
+
+-- the memory of k slots
+lent : (k : ℕ) (pool descriptors : List ℕ) → length pool ≡ 280 * k → length descriptors ≡ 2 * k → fitsMemory k pool descriptors ≡ true
+unfolding fitsMemory
+lent k pool descriptors p d = rw (eq-eqb (length pool) (280 * k) p, eq-eqb (length descriptors) (2 * k) d)
+
+-- ---- a booking just opened
+clear-past : zeroPast 0 clearArea ≡ true
+unfolding clearArea
+clear-past = ap (zeroPast 0) (sym (packed-nil 279)) ∙ packed-past 279 []
+
+no-wait : zeroPast 0 (0 ∷ []) ≡ true
+unfolding zeroPast noOnes lineBits bitsOf
+no-wait = refl
+
+opened-order : (s : Settings) → Ranges s → InOrder (openedLink s)
+opened-order s r =
+    record {
+      area = clear-past;
+      settings = r;
+      run = omega arith;
+      bits = omega arith;
+      idle = λ _. refl;
+      counter = (r .n .0, omega arith);
+      number = omega (arith, r .d .0);
+      count = refl;
+      next = omega (arith, r .k .0);
+      waiting = omega arith;
+      unflagged = λ _. refl;
+      wait = no-wait;
+    }
+
+pub open-in-use : OpenInUse
+unfolding openAnswer
+open-in-use l s pool descriptors e =
+    let z : openNumber l s pool descriptors ≡ 0 = sym (open-number l s pool descriptors) ∙ e in
+    let ok = openable l s pool descriptors z in
+    subst (λ (o : Outcome). InUse (record { link = o .link; pool = o .pool; descriptors = o .descriptors }))
+    (sym (done (openNumber l s pool descriptors) (outcome 0 (openedLink s) pool (emptyDescriptors (s .k)))
+    (outcome (openNumber l s pool descriptors) l pool descriptors) z))
+    (record {
+      opened = refl;
+      formed = orderly (openedLink s) refl (ok .range) (opened-order s (ranges s (ok .range)));
+      fits = lent (s .k) pool (emptyDescriptors (s .k)) (ok .octets) (empty-length (s .k));
+    })
+
+-- ---- one receive call
+module _ (h : Held) (f : Feed) (u : InUse h) (few : length (f .octets) ≤ 1024) (room : 48 * length (f .octets) ≤ length (f .records)) where
+  abbrev S : Settings
+  S = h .link .settings
+
+  abbrev then : Board
+  then = boardAfter S (board h) (f .octets)
+
+  no-fault : receiveNumber (h .link) (f .octets) (h .pool) (h .descriptors) (f .records) ≡ 0
+  unfolding receiveNumber first
+  no-fault =
+      rw (u .formed, u .opened, u .fits, le-ltb 1024 (length (f .octets)) few, le-ltb (length (f .records)) (48 * length (f .octets)) room)
+
+  is-received : answer h f ≡ received (h .link) (f .octets) (h .pool) (h .descriptors) (f .records)
+  unfolding receiveAnswer
+  is-received = done _ _ _ no-fault
+
+  taken : answer h f .number ≡ 0
+  taken = ap (λ (o : ReceiveOutcome). o .number) is-received
+
+  can : Receivable (h .link) (f .octets) (h .pool) (h .descriptors) (f .records)
+  can = receivable (h .link) (f .octets) (h .pool) (h .descriptors) (f .records) no-fault
+
+  few-bits : length (board h .receiver .gathered) ≤ 8 * S .m + 7
+  few-bits = few-gathered h (f .octets) (f .records) can
+
+  -- desk, monitor and lent memory stay in range,
+  still-ready : Ready S (holding (record { desk = then .office .desk; watch = then .watch; count = 0 }) (then .office .pool) (then .office .descriptors) [])
+  unfolding boardAfter lineHappenings marksDone
+  still-ready =
+      let k =
+      ready-kept S (holding (progressOf (h .link)) (h .pool) (h .descriptors) (f .records)) (lineMarks (S .m) (board h .receiver) (f .octets))
+      (limits (h .link) (f .octets) (h .pool) (h .descriptors) (f .records) can)
+      (line-allowed (S .m) (f .octets) (board h .receiver) (can .order .settings .m .1) few-bits)
+      (ready (h .link) (f .octets) (h .pool) (h .descriptors) (f .records) can) in
+      record { monitor = k .monitor; fits = k .fits }
+
+  -- and so does the receiver
+  bits-after : length (then .receiver .gathered) ≤ 8 * S .m + 7
+  unfolding boardAfter
+  bits-after = line-held (S .m) (f .octets) (board h .receiver) few-bits
+
+  sound-after : Sound (then .receiver)
+  unfolding boardAfter
+  sound-after =
+      line-sound (S .m) (f .octets) (board h .receiver)
+      (record { run = can .order .run; idle = λ e. ap (λ (n : ℕ). take n (lineBits (h .link .line .area))) (can .order .idle e) })
+
+  -- and N's counter
+  left-after : then .office .desk .counting .left ≤ S .n
+  unfolding boardAfter
+  left-after = left-most S (lineMarks (S .m) (board h .receiver) (f .octets)) (board h .office) (can .order .counter .1)
+
+  order-after : InOrder (linkOf (h .link) then)
+  order-after =
+      record {
+        area = packed-past 279 (then .receiver .gathered);
+        settings = can .order .settings;
+        run = sound-after .run;
+        bits = bits-after;
+        idle = λ e. ap length (sound-after .idle e);
+        counter = (still-ready .fits .counter, left-after);
+        number = still-ready .monitor .number;
+        count = count-out (then .watch .monitor .mode) S (then .watch .monitor .count) (still-ready .monitor .count);
+        next = still-ready .fits .next;
+        waiting = can .order .waiting;
+        unflagged = can .order .unflagged;
+        wait = can .order .wait;
+      }
+
+  still-used : InUse (fed h f)
+  still-used =
+      subst (λ (o : ReceiveOutcome). InUse (record { link = o .link; pool = o .pool; descriptors = o .descriptors })) (sym is-received)
+      (record {
+        opened = u .opened;
+        formed = orderly (linkOf (h .link) then) (u .opened) (in-range (h .link) (u .opened) (u .formed)) order-after;
+        fits = lent (S .k) (then .office .pool) (then .office .descriptors) (still-ready .fits .octets) (still-ready .fits .words);
+      })
+
+pub stays-in-use : StaysInUse
+unfolding heldAfter
+stays-in-use h [] u none = (no-calls, u)
+stays-in-use h (f ∷ fs) u (more few room rest) =
+    let r = stays-in-use (fed h f) fs (still-used h f u few room) rest in
+    (one-call (taken h f u few room) (r .0), r .1)
+
+-- ---- read
+module _ (h : Held) (slot : ℕ) (unit : List ℕ) (u : InUse h) (below : slot < h .link .settings .k)
+    (status : statusOf (h .descriptors) slot ≡ 0) (size : lengthOf (h .descriptors) slot ≡ length unit) (short : length unit ≤ 278) where
+  can-read : readNumber (h .link) (h .pool) (h .descriptors) slot ≡ 0
+  unfolding readNumber first
+  can-read =
+      rw (
+        u .formed,
+        u .opened,
+        u .fits,
+        lt-leb (h .link .settings .k) slot below,
+        le-ltb 2 (statusOf (h .descriptors) slot) (omega arith),
+        le-ltb 278 (lengthOf (h .descriptors) slot) (omega arith),
+      )
+
+  reads : slotOf (h .pool) slot ≡ filled unit → readPart (h .link) (h .pool) (h .descriptors) slot ≡ unit
+  unfolding readPart
+  reads octets =
+      done _ _ _ can-read ∙ ap₂ (λ (n : ℕ) (xs : List ℕ). take n xs) size octets ∙ filled-front unit
+
+pub stands-read : StandsRead
+stands-read h slot unit u below short is = (
+  can-read h slot unit u below (is .status) (is .size) short,
+  reads h slot unit u below (is .status) (is .size) short (is .octets),
+)

@@ -1,0 +1,8 @@
+-- What one link sends and another receives.
+pub mod Feeding
+pub mod Shelf
+pub mod Reading
+pub mod Streams
+pub mod Using
+pub mod Turns
+pub mod Promises

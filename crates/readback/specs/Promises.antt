@@ -1,0 +1,128 @@
+-- D2.6: what `send` and `fill` of one booking put on the line, `receive` of another hands over. The proofs are in proofs/ReadBack.antt.
+use Prim.Native.Nat.{ℕ, _+_, _*_, _≤_, _<_}
+use mathlib.Core.Path.{_≡_}
+use mathlib.Core.Bool.{Bool, true, false}
+use mathlib.Core.List.{List, [], _∷_, _++_}
+use lib.ListN.{length, take, drop}
+use Rattle.framing.specs.Delimitation.{flagged, after}
+use Rattle.fcs.specs.Check.{checkOctets}
+use Rattle.sending.specs.Stuffing.{unitLine}
+use Rattle.sending.specs.Stream.{flags, flagsBefore, unitsLine}
+use Rattle.board.specs.declared.Settings.{Settings}
+use Rattle.board.specs.declared.Link.{Link}
+use Rattle.units.specs.Desk.{Office, isFree}
+use Rattle.reception.specs.Line.{boardAfter}
+use Rattle.link.specs.Calls.{Outcome, openAnswer, readPart}
+use Rattle.output.specs.Transmission.{Sending, send, fill, linkAfter, octetsSent, Accepted, waitingBits, fillsFirst, contentsFrom, contents}
+use Rattle.readback.specs.Feeding.{Held, board, Feed, heldAfter, recordsFed, octetsFed}
+use Rattle.readback.specs.Shelf.{unitOctets, shelfAfter, shelfRecords}
+use Rattle.readback.specs.Reading.{Stands, Reported}
+use Rattle.readback.specs.Streams.{Allowed, AllAllowed, closedOut, booked, emptyShelf}
+use Rattle.readback.specs.Using.{InUse, AllSized}
+use Rattle.readback.specs.Turns.{Turn, octetsTurned, Roomy, HandsOver}
+
+-- ---- the side that sends
+-- what is handed to open, and the sends and fills after it
+pub record Booking : Type 0 where
+  pub link : Link
+  pub settings : Settings
+  pub pool : List ℕ
+  pub descriptors : List ℕ
+  pub sendings : List Sending
+
+abbrev pub opening : Booking → Outcome
+opening b = openAnswer (b .link) (b .settings) (b .pool) (b .descriptors)
+
+-- they are all answered 0
+pub record Sends (b : Booking) : Type 0 where
+  pub opens : opening b .number ≡ 0
+  pub accepts : Accepted (opening b .link) (b .sendings)
+
+-- its line octets, and how many bits wait behind them
+abbrev pub line : Booking → List ℕ
+line b = octetsSent (opening b .link) (b .sendings)
+
+abbrev pub waits : Booking → ℕ
+waits b = length (waitingBits (linkAfter (opening b .link) (b .sendings)))
+
+-- the bits of the line before the unit that comes after these, up to the flag that opens it
+abbrev pub ahead : Booking → List (List ℕ) → List Bool
+ahead b earlier = flags (flagsBefore (fillsFirst (b .sendings)) (contents (b .sendings))) ++ unitsLine earlier
+
+-- ---- the side that receives
+-- A stretch of the line is fed to a link, in any cutting, up to the octet `last` with the last bit of the unit's closing flag. It may begin
+-- anywhere before the unit, at any bit offset from it, if the link has read the flag before the unit when it comes to it. The next slot is
+-- free at the moment when that last octet comes.
+pub record Stretch (octets : List ℕ) (before : List Bool) (content : List ℕ) (h : Held) (fs : List Feed) : Type 0 where
+  pub skipped : List ℕ
+  pub early : List ℕ
+  pub last : ℕ
+  pub later : List ℕ
+  pub is : octets ≡ skipped ++ (early ++ (last ∷ later))
+  pub fed : octetsFed fs ≡ early ++ (last ∷ [])
+  pub begins : 8 * length skipped ≤ length before
+  pub not-yet : 8 * length (skipped ++ early) < length (before ++ unitLine content)
+  pub closes : length (before ++ unitLine content) ≤ 8 * length (skipped ++ early) + 8
+  pub flag-read : after (h .link .settings .m) (board h .receiver) (drop (8 * length skipped) before) ≡ flagged
+  pub free : isFree (boardAfter (h .link .settings) (board h) early .office) ≡ true
+
+abbrev pub officeThen : {octets : List ℕ} {before : List Bool} {content : List ℕ} {h : Held} {fs : List Feed}
+    → Stretch octets before content h fs → Office
+officeThen {h = h} x = boardAfter (h .link .settings) (board h) (x .early) .office
+
+-- the unit stands in the slot, its record of kind 0 is written, and read gives its octets
+pub record HandedOver (h : Held) (records : List ℕ) (slot : ℕ) (unit : List ℕ) : Type 0 where
+  pub stands : Stands h slot unit
+  pub reported : Reported records unit
+  pub read : readPart (h .link) (h .pool) (h .descriptors) slot ≡ unit
+
+-- ---- read-back of a unit
+abbrev pub ReadBack : Type 0
+ReadBack =
+    (b : Booking) (earlier later : List (List ℕ)) (content : List ℕ) → Sends b → contents (b .sendings) ≡ earlier ++ (content ∷ later)
+    → (h : Held) (fs : List Feed) → InUse h → AllSized fs → h .link .settings .filter ≡ false → Allowed (h .link .settings .m) content
+    → (x : Stretch (line b) (ahead b earlier) content h fs)
+    → HandedOver (heldAfter h fs) (recordsFed h fs) (officeThen x .desk .slots .next) (unitOctets content)
+
+-- D2.7: a fill after content sends the first two octets of the last content, then an octet 0,
+unfoldable pub lastSent : List ℕ → List Sending → List ℕ
+lastSent last [] = last
+lastSent last (send content output ∷ ss) = lastSent (take 2 content) ss
+lastSent last (fill output ∷ ss) = lastSent last ss
+
+abbrev pub FillSends : Type 0
+FillSends =
+    (ss₁ ss₂ : List Sending) (output : List ℕ) (x y : ℕ) → lastSent [] ss₁ ≡ x ∷ y ∷ []
+    → contents (ss₁ ++ (fill output ∷ ss₂)) ≡ contents ss₁ ++ ((x ∷ y ∷ 0 ∷ []) ∷ contentsFrom (x ∷ y ∷ []) ss₂)
+
+-- and is read back as a unit of five octets.
+abbrev pub FillReadBack : Type 0
+FillReadBack =
+    (b : Booking) (ss₁ ss₂ : List Sending) (output : List ℕ) (x y : ℕ) → Sends b → b .sendings ≡ ss₁ ++ (fill output ∷ ss₂)
+    → lastSent [] ss₁ ≡ x ∷ y ∷ []
+    → (h : Held) (fs : List Feed) → InUse h → AllSized fs → h .link .settings .filter ≡ false → Allowed (h .link .settings .m) (x ∷ y ∷ 0 ∷ [])
+    → (z : Stretch (line b) (ahead b (contents ss₁)) (x ∷ y ∷ 0 ∷ []) h fs)
+    → HandedOver (heldAfter h fs) (recordsFed h fs) (officeThen z .desk .slots .next) (x ∷ y ∷ 0 ∷ checkOctets (x ∷ y ∷ 0 ∷ []))
+
+-- ---- read-back of all that was sent
+-- A fresh booking with its filter off that allows the lengths and has a slot for each unit reads all of the line, in any cutting: it hands over
+-- exactly the units whose closing flag is out, in order, and finds nothing else.
+abbrev pub AllReadBack : Type 0
+AllReadBack =
+    (b : Booking) (l : Link) (s : Settings) (pool descriptors : List ℕ) (fs : List Feed)
+    → Sends b → openAnswer l s pool descriptors .number ≡ 0 → s .filter ≡ false → AllAllowed (s .m) (contents (b .sendings))
+    → AllSized fs → octetsFed fs ≡ line b
+    → let us = closedOut (waits b) (contents (b .sendings)) in
+    let h = heldAfter (booked l s pool descriptors) fs in
+    length us ≤ s .k
+    → (recordsFed (booked l s pool descriptors) fs ≡ shelfRecords (s .k) (emptyShelf (s .k) pool) us)
+    × (h .pool ≡ shelfAfter (s .k) (emptyShelf (s .k) pool) us .pool)
+    × (h .descriptors ≡ shelfAfter (s .k) (emptyShelf (s .k) pool) us .descriptors)
+
+-- The same for any number of units, if slots are handed back between the calls.
+abbrev pub AllReadInTurns : Type 0
+AllReadInTurns =
+    (b : Booking) (l : Link) (s : Settings) (pool descriptors : List ℕ) (ts : List Turn)
+    → Sends b → openAnswer l s pool descriptors .number ≡ 0 → s .filter ≡ false → AllAllowed (s .m) (contents (b .sendings))
+    → Roomy (booked l s pool descriptors) ts → octetsTurned ts ≡ line b
+    → HandsOver (booked l s pool descriptors) ts (closedOut (waits b) (contents (b .sendings)))

@@ -1,0 +1,51 @@
+-- What is promised of a line that is fed to a link. The proofs are in proofs/Feeding.antt and proofs/Standing.antt.
+use Prim.Native.Nat.{ℕ, _+_, _≤_}
+use mathlib.Core.Path.{_≡_}
+use mathlib.Core.Bool.{Bool, true, false}
+use mathlib.Core.List.{List, [], _∷_, _++_}
+use lib.ListN.{length}
+use Rattle.bits.specs.Octets.{lineBits, Octets}
+use Rattle.framing.specs.Delimitation.{flagged, after}
+use Rattle.sending.specs.Stuffing.{unitLine}
+use Rattle.memory.specs.Lent.{statusOf, lengthOf, slotOf, filled}
+use Rattle.records.specs.Record.{recordOf}
+use Rattle.units.specs.Desk.{unitOf, isFree}
+use Rattle.reception.specs.Line.{boardAfter, lineRecords}
+use Rattle.readback.specs.Feeding.{Held, board, Feed, heldAfter, recordsFed, octetsFed, Answered}
+use Rattle.readback.specs.Shelf.{unitOctets}
+
+-- Calls that are all answered 0 leave the board, and write the records, of one line.
+abbrev pub FedAsOne : Type 0
+FedAsOne =
+    (h : Held) (fs : List Feed) → Answered h fs
+    → (board (heldAfter h fs) ≡ boardAfter (h .link .settings) (board h) (octetsFed fs))
+    × (recordsFed h fs ≡ lineRecords (h .link .settings) (board h) (octetsFed fs))
+
+-- "the unit stands in the slot with status 0, the right length, the same octets and zeros after them"
+pub record Stands (h : Held) (slot : ℕ) (unit : List ℕ) : Type 0 where
+  pub status : statusOf (h .descriptors) slot ≡ 0
+  pub size : lengthOf (h .descriptors) slot ≡ length unit
+  pub octets : slotOf (h .pool) slot ≡ filled unit
+
+-- "and the record says kind 0": it is one of those written
+pub record Reported (records unit : List ℕ) : Type 0 where
+  pub earlier : List ℕ
+  pub later : List ℕ
+  pub good : ℕ
+  pub count : ℕ
+  pub raised : Bool
+  pub is : records ≡ earlier ++ (recordOf (unitOf 0 false unit good false 1) count raised ++ later)
+
+-- A line is fed to a link with its filter off, in any cutting. Before the unit stand any bits after which the link's receiver has just
+-- read a flag; the octet `last` holds the last bit of the unit's closing flag; the next slot is free before that octet comes. Then the unit
+-- stands in that slot, and its record is written.
+abbrev pub ReadBackFed : Type 0
+ReadBackFed =
+    (h : Held) (fs : List Feed) (early : List ℕ) (last : ℕ) (before behind : List Bool) (content : List ℕ)
+    → Answered h fs → octetsFed fs ≡ early ++ (last ∷ [])
+    → lineBits (early ++ (last ∷ [])) ≡ before ++ (unitLine content ++ behind) → length behind ≤ 7
+    → after (h .link .settings .m) (board h .receiver) before ≡ flagged
+    → h .link .settings .filter ≡ false → 3 ≤ length content → length content + 2 ≤ h .link .settings .m → Octets content
+    → let then = boardAfter (h .link .settings) (board h) early .office in
+    isFree then ≡ true
+    → Stands (heldAfter h fs) (then .desk .slots .next) (unitOctets content) × Reported (recordsFed h fs) (unitOctets content)

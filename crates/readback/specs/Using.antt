@@ -1,0 +1,40 @@
+-- A link in use, and calls that it does not refuse. The proofs are in proofs/Using.antt.
+use Prim.Native.Nat.{ℕ, _*_, _≤_, _<_}
+use mathlib.Core.Path.{_≡_}
+use mathlib.Core.Bool.{true, false}
+use mathlib.Core.List.{List, [], _∷_}
+use lib.ListN.{length}
+use Rattle.board.specs.declared.Settings.{Settings}
+use Rattle.board.specs.declared.Link.{Link}
+use Rattle.board.specs.Order.{malformed}
+use Rattle.link.specs.Refusals.{fitsMemory, readNumber}
+use Rattle.link.specs.Calls.{openAnswer, readPart}
+use Rattle.readback.specs.Feeding.{Held, Feed, heldAfter, Answered}
+use Rattle.readback.specs.Reading.{Stands}
+use Rattle.readback.specs.Streams.{booked}
+
+-- open, not malformed, and lent the memory of its slots
+pub record InUse (h : Held) : Type 0 where
+  pub opened : h .link .opened ≡ true
+  pub formed : malformed (h .link) ≡ false
+  pub fits : fitsMemory (h .link .settings .k) (h .pool) (h .descriptors) ≡ true
+
+-- at most 1,024 line octets, and 48 octets of record area for each
+pub data AllSized : List Feed → Type 0 where
+  none : AllSized []
+  more : {f : Feed} {fs : List Feed} → length (f .octets) ≤ 1024 → 48 * length (f .octets) ≤ length (f .records) → AllSized fs → AllSized (f ∷ fs)
+
+-- A booking just opened is in use.
+abbrev pub OpenInUse : Type 0
+OpenInUse =
+    (l : Link) (s : Settings) (pool descriptors : List ℕ) → openAnswer l s pool descriptors .number ≡ 0 → InUse (booked l s pool descriptors)
+
+-- A link in use answers 0 to every receive of such sizes, and stays in use.
+abbrev pub StaysInUse : Type 0
+StaysInUse = (h : Held) (fs : List Feed) → InUse h → AllSized fs → Answered h fs × InUse (heldAfter h fs)
+
+-- What stands in a slot of a link in use is what read gives.
+abbrev pub StandsRead : Type 0
+StandsRead =
+    (h : Held) (slot : ℕ) (unit : List ℕ) → InUse h → slot < h .link .settings .k → length unit ≤ 278 → Stands h slot unit
+    → (readNumber (h .link) (h .pool) (h .descriptors) slot ≡ 0) × (readPart (h .link) (h .pool) (h .descriptors) slot ≡ unit)

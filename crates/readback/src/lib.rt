@@ -1,0 +1,1 @@
+// No code: what is promised of send, fill and receive together.
