@@ -7,13 +7,13 @@ use native.Mathlib.Omega.{arith}
 use lib.Dec.{eqb, leb, ltb}
 use lib.ListN.{length, replicate, length-replicate}
 use borrow.Author.Tests.{eq-eqb, lt-ltb, lt-leb, eqb-true, eqb-false}
-use Rattle.memory.specs.Lent.{zeros, statusOf, lengthOf, withSlot, withDescriptor, emptySlot}
+use Rattle.memory.specs.Lent.{zeros, emptyDescriptors, statusOf, lengthOf, withSlot, withDescriptor, emptySlot}
 use Rattle.memory.proofs.Slots.{wiped-zeros, pool-length, descriptor-written, descriptors-length}
 use Rattle.board.specs.declared.Settings.{Settings}
 use Rattle.board.specs.declared.Link.{Link}
 use Rattle.board.specs.Order.{malformed}
 use Rattle.link.specs.Refusals.{pick, fault, first, fitsMemory, openNumber, commandNumber, readNumber}
-use Rattle.link.specs.Calls.{Outcome, outcome, openAnswer, wipeAnswer, commandAnswer, readPart, handAnswer}
+use Rattle.link.specs.Calls.{Outcome, outcome, openedLink, openAnswer, wipeAnswer, commandAnswer, readPart, handAnswer}
 use Rattle.link.specs.Promises.{RefusedOpen, RefusedCommand, RefusedRead, RefusedHandBack, WipeLeavesNothing, OpensOnWiped, HandedBackIsEmpty}
 use Rattle.link.proofs.Answers.{done, refused, Openable, openable, Readable, readable}
 
@@ -52,6 +52,12 @@ pub opens-on-wiped : OpensOnWiped
 opens-on-wiped l s pool descriptors e =
     let ok = openable l s pool descriptors (sym (open-number l s pool descriptors) ∙ e) in
     (ok .clean-pool, ok .clean-words)
+
+-- an open answered 0 gives the booking's link and empty slots
+pub opened : (l : Link) (s : Settings) (pool descriptors : List ℕ) → openAnswer l s pool descriptors .number ≡ 0
+    → openAnswer l s pool descriptors ≡ outcome 0 (openedLink s) pool (emptyDescriptors (s .k))
+unfolding openAnswer
+opened l s pool descriptors e = done _ _ _ (sym (open-number l s pool descriptors) ∙ e)
 
 pub hand-number : (l : Link) (pool descriptors : List ℕ) (slot : ℕ) → handAnswer l pool descriptors slot .number ≡ readNumber l pool descriptors slot
 unfolding handAnswer

@@ -8,25 +8,24 @@ use native.Mathlib.Omega.{arith}
 use borrow.Author.Tests.{eqb-true, eqb-false}
 use lib.Dec.{eqb}
 use lib.ListN.{length, take, drop, length-append}
-use lib.Seq.{sets, sets-eq, length-sets, take-at, drop-at}
-use Rattle.bits.specs.Octets.{lineBits, wholeOctets, octetOf}
+use lib.Seq.{sets-eq, length-sets, take-at, drop-at}
+use Rattle.bits.specs.Octets.{lineBits, wholeOctets}
 use Rattle.bits.proofs.Digits.{all-back}
 use Rattle.bits.proofs.Whole.{length-whole}
 use Rattle.sending.specs.Stuffing.{flag, unitLine}
 use Rattle.sending.specs.Packing.{waiting, octetsOut, stillWaiting}
 use Rattle.sending.proofs.Puttings.{length-waiting, nothing-lost}
 use Rattle.sending.proofs.Stuffs.{few-octets}
-use Rattle.board.specs.declared.Transmitter.{Transmitter}
 use Rattle.board.specs.declared.Link.{Link}
 use Rattle.board.specs.Promises.{Sized}
 use Rattle.board.proofs.Orders.{InOrder}
 use Rattle.link.specs.Refusals.{pick}
-use Rattle.link.proofs.Answers.{done, refused}
+use Rattle.link.proofs.Answers.{done}
 use Rattle.output.specs.Refusals.{sendNumber, fillNumber}
 use Rattle.output.specs.Output.{OutputOutcome, sender, firstFlag, unitOut, fillIn, fillOut, fillEvent, putOut, notSent, sendAnswer, fillAnswer}
 use Rattle.output.specs.Transmission.{Sending, send, fill, areaOf, answer, sentOn, wentOut, waitingBits}
 use Rattle.output.specs.Promises.{FewSent, RestUnchanged}
-use Rattle.output.proofs.Outputs.{Ready-to-put, fillable, sendable, first-short}
+use Rattle.output.proofs.Outputs.{fillable, sendable, first-short}
 use Rattle.output.proofs.Faults.{refused-send, refused-fill}
 
 -- what a call puts behind the bits that wait, and what its link keeps

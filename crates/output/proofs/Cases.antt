@@ -1,12 +1,18 @@
--- P14 through send.
-use mathlib.Core.Path.{refl, ap, _∙_}
+-- P14 through send, and an example.
+use mathlib.Core.Path.{refl}
 use mathlib.Core.List.{_∷_, _++_}
 use Rattle.bits.specs.Octets.{bitsOf, lineBits}
-use Rattle.fcs.specs.Check.{checkOctets}
+use Rattle.bits.specs.Octets.{octetOf, packed, wholeOctets, bitsAfter}
+use Rattle.fcs.specs.Check.{checkOf, checkOctets}
+use Rattle.sending.specs.Packing.{octetsOut, stillWaiting}
 use Rattle.sending.specs.Stuffing.{flag, stuffed, unitBits, unitLine}
-use Rattle.output.specs.Output.{unitOut}
-use Rattle.output.specs.Transmission.{send}
-use Rattle.output.specs.Promises.{P14}
+use Rattle.board.specs.Link.{clearArea}
+use Rattle.board.specs.Order.{noOnes, zeroPast, inRange, lineOut, counterOut, monitorOut, transmitterOut, outOfOrder, malformed}
+use Rattle.link.specs.Refusals.{first}
+use Rattle.output.specs.Refusals.{sendNumber, fillNumber}
+use Rattle.output.specs.Output.{unitOut, fillOut, sendAnswer, fillAnswer}
+use Rattle.output.specs.Transmission.{send, linkAfter, octetsSent}
+use Rattle.output.specs.Promises.{P14, ThreeSent}
 use Rattle.output.proofs.Calls.{accepted, one-call}
 
 pub p14 : P14
@@ -16,3 +22,7 @@ p14 l content output z =
       rest = stuffed 0 (lineBits (content ++ checkOctets (0x1f ∷ content))) ++ flag;
       is = one-call l (send (0x1f ∷ content) output) (accepted l (send (0x1f ∷ content) output) tt z);
     }
+
+pub three-sent : ThreeSent
+unfolding octetsSent linkAfter sendAnswer fillAnswer sendNumber fillNumber first malformed outOfOrder transmitterOut monitorOut counterOut lineOut inRange zeroPast noOnes clearArea unitOut fillOut unitLine unitBits lineBits bitsOf octetOf packed wholeOctets bitsAfter octetsOut stillWaiting checkOf checkOctets
+three-sent = (refl, refl, refl)

@@ -1,24 +1,20 @@
 -- What the transmitter puts on the line, over a list of calls.
-use Prim.Native.Nat.{ℕ, zero, suc, _≤_}
+use Prim.Native.Nat.{ℕ, _≤_}
 use mathlib.Core.Path.{_≡_, refl, sym, ap, ap₂, subst, _∙_}
 use mathlib.Core.Bool.{Bool, true, false}
 use mathlib.Core.List.{List, [], _∷_, _++_, append-assoc, append-nil}
 use native.Mathlib.Omega.{arith}
-use borrow.Author.Tests.{eqb-true, eqb-false}
-use lib.Dec.{eqb}
 use lib.ListN.{length, take}
 use Rattle.bits.specs.Octets.{bitsOf, lineBits}
 use Rattle.bits.specs.Machine.{outs}
 use Rattle.bits.proofs.Lines.{line-append}
 use Rattle.sending.specs.Stuffing.{flag, unitLine}
-use Rattle.sending.specs.Stream.{flags, flagsBefore, unitsLine, streamLine}
+use Rattle.sending.specs.Stream.{flags, unitsLine, streamLine}
 use Rattle.board.specs.declared.Transmitter.{Transmitter}
 use Rattle.board.specs.declared.Settings.{Settings}
 use Rattle.board.specs.declared.Link.{Link}
-use Rattle.memory.specs.Lent.{emptyDescriptors}
-use Rattle.link.specs.Refusals.{openNumber}
-use Rattle.link.specs.Calls.{Outcome, outcome, openedLink, openAnswer}
-use Rattle.link.proofs.Answers.{done, refused}
+use Rattle.link.specs.Calls.{Outcome, openedLink}
+use Rattle.link.proofs.Kept.{opened}
 use Rattle.output.specs.Output.{firstFlag, unitOut, fillIn, fillOut}
 use Rattle.output.specs.Transmission.{Sending, send, fill, answer, sentOn, wentOut, linkAfter, octetsSent, Accepted, none, more, waitingBits, fillsFirst, contentsFrom, contents}
 use Rattle.output.specs.Promises.{TransmitterLine}
@@ -154,17 +150,6 @@ at-opening l (fill output ∷ ss) h t (more z a) =
     (before-content (sentOn l (fill output)) ss (two-kept l (fill output) h p) (fill-before l h output (t .sent) z) a)
 
 -- ---- from opening
-module _ (l : Link) (s : Settings) (pool descriptors : List ℕ) where
-  opened : openAnswer l s pool descriptors .number ≡ 0 → openAnswer l s pool descriptors .link ≡ openedLink s
-  unfolding openAnswer
-  opened e = go (eqb (openNumber l s pool descriptors) 0) refl
-    where
-      go : (b : Bool) → eqb (openNumber l s pool descriptors) 0 ≡ b → openAnswer l s pool descriptors .link ≡ openedLink s
-      go true q = ap (λ (x : Outcome). x .link) (done _ _ _ (eqb-true (openNumber l s pool descriptors) 0 q))
-      go false q =
-          let z = eqb-false (openNumber l s pool descriptors) 0 q in
-          absurd (z (sym (ap (λ (x : Outcome). x .number) (refused (openNumber l s pool descriptors) (outcome 0 (openedLink s) pool (emptyDescriptors (s .k))) (outcome (openNumber l s pool descriptors) l pool descriptors) z)) ∙ e))
-
 from-open : (s : Settings) (ss : List Sending) → Accepted (openedLink s) ss
     → (lineBits (octetsSent (openedLink s) ss) ++ waitingBits (linkAfter (openedLink s) ss) ≡ streamLine (fillsFirst ss) (contents ss))
     × (length (waitingBits (linkAfter (openedLink s) ss)) ≤ 7)
@@ -179,4 +164,4 @@ transmitter-line l s pool descriptors ss z a =
     subst (λ (b : Link).
     Accepted b ss
     → (lineBits (octetsSent b ss) ++ waitingBits (linkAfter b ss) ≡ streamLine (fillsFirst ss) (contents ss))
-    × (length (waitingBits (linkAfter b ss)) ≤ 7)) (sym (opened l s pool descriptors z)) (from-open s ss) a
+    × (length (waitingBits (linkAfter b ss)) ≤ 7)) (sym (ap (λ (o : Outcome). o .link) (opened l s pool descriptors z))) (from-open s ss) a

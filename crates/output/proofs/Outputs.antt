@@ -1,11 +1,11 @@
 -- How send and fill meet their answers: what no fault says, room in the output area, and the bits put one after the other.
-use Prim.Native.Nat.{ℕ, zero, suc, _+_, _*_, _/_, _^_, _≤_, _<_}
+use Prim.Native.Nat.{ℕ, _+_, _/_, _^_, _≤_, _<_}
 use mathlib.Core.Path.{_≡_, refl, sym, ap, ap₂, subst, _∙_}
-use mathlib.Core.Bool.{Bool, true, false, _||_}
+use mathlib.Core.Bool.{Bool, true, false}
 use mathlib.Core.List.{List, [], _∷_, _++_, append-nil}
 use native.Mathlib.Nat.{zero-add, div-lt-iff-lt-mul}
 use native.Mathlib.Omega.{arith}
-use lib.Dec.{eqb, ltb}
+use lib.Dec.{ltb}
 use lib.ListN.{length, getD, take, drop, length-append}
 use lib.Seq.{sets, length-sets}
 use lib.Pow.{pow-pos}
@@ -25,7 +25,7 @@ use Rattle.link.specs.Refusals.{pick, first}
 use Rattle.link.proofs.Faults.{none}
 use Rattle.link.proofs.Answers.{done, refused}
 use Rattle.output.specs.Refusals.{sendNumber, fillNumber, sharedNumber}
-use Rattle.output.specs.Output.{OutputOutcome, sender, firstFlag, unitOut, fillIn, fillOut, fillEvent, linkSent, putOut, notSent, sendAnswer, fillAnswer}
+use Rattle.output.specs.Output.{sender, firstFlag, unitOut, fillIn, fillOut, fillEvent, linkSent, putOut, notSent, sendAnswer, fillAnswer}
 
 -- ---- what no fault says
 pub record Ready-to-put (l : Link) (output : List ℕ) : Type 0 where

@@ -9,7 +9,7 @@ use lib.Seq.{sets}
 use Rattle.bits.specs.Octets.{octetOf}
 use Rattle.sending.specs.declared.Tx.{Tx}
 use Rattle.sending.specs.Stuffing.{flag, unitLine}
-use Rattle.sending.specs.Packing.{waiting, octetsOut, stillWaiting}
+use Rattle.sending.specs.Packing.{octetsOut, stillWaiting}
 use Rattle.board.specs.declared.Transmitter.{Transmitter}
 use Rattle.board.specs.declared.Link.{Link}
 use Rattle.link.specs.Refusals.{pick}

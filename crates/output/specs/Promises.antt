@@ -3,17 +3,17 @@ use Prim.Native.Nat.{ℕ, _≤_}
 use mathlib.Core.Path.{_≡_}
 use mathlib.Core.Bool.{Bool, true, false}
 use mathlib.Core.List.{List, [], _∷_, _++_}
-use lib.ListN.{length, take, drop}
+use lib.ListN.{length, drop, replicate}
 use Rattle.bits.specs.Octets.{lineBits}
 use Rattle.sending.specs.Stream.{streamLine}
 use Rattle.board.specs.declared.Settings.{Settings}
 use Rattle.board.specs.declared.Link.{Link}
 use Rattle.board.specs.Promises.{Sized}
 use Rattle.link.specs.Refusals.{rising}
-use Rattle.link.specs.Calls.{openAnswer}
+use Rattle.link.specs.Calls.{openedLink, openAnswer}
 use Rattle.output.specs.Refusals.{sendFaults, fillFaults, sendNumber, fillNumber}
 use Rattle.output.specs.Output.{firstFlag, notSent, sendAnswer, fillAnswer}
-use Rattle.output.specs.Transmission.{Sending, send, areaOf, answer, sentOn, wentOut, linkAfter, octetsSent, Accepted, waitingBits, fillsFirst, contents}
+use Rattle.output.specs.Transmission.{Sending, send, fill, areaOf, answer, sentOn, wentOut, linkAfter, octetsSent, Accepted, waitingBits, fillsFirst, contents}
 
 -- D1.2: the faults are asked in rising number, and a refused call changes nothing.
 abbrev pub OutputRises : Type 0
@@ -57,3 +57,20 @@ P14 =
     (l : Link) (content output : List ℕ) → sendAnswer l (0x1f ∷ content) output .number ≡ 0
     → GoesOut (true ∷ true ∷ true ∷ true ∷ true ∷ false ∷ false ∷ false ∷ false ∷ []) l
     (send (0x1f ∷ content) output)
+
+-- An example: what a fill, a send of 1F 02 03 and a fill put out from opening on, computed apart from this by polynomial division.
+abbrev pub area : List ℕ
+area = replicate 336 0
+
+abbrev pub row1 : Settings
+row1 =
+    record { k = 1; m = 278; n = 16; t = 64; d = 256; a = 4; mask = 255 ∷ 255 ∷ 255 ∷ 255 ∷ 255 ∷ []; filter = false; itu = false; orn = false }
+
+abbrev pub three : List Sending
+three = fill area ∷ send (0x1f ∷ 2 ∷ 3 ∷ []) area ∷ fill area ∷ []
+
+abbrev pub ThreeSent : Type 0
+ThreeSent =
+    (octetsSent (openedLink row1) three ≡ 0x7e ∷ 0x1f ∷ 0x04 ∷ 0x06 ∷ 0x6a ∷ 0x11 ∷ 0xfc ∷ 0x3e ∷ 0x08 ∷ 0x00 ∷ 0xb8 ∷ 0xe8 ∷ 0xf8 ∷ [])
+    × (waitingBits (linkAfter (openedLink row1) three) ≡ true ∷ false ∷ [])
+    × (linkAfter (openedLink row1) three .events ≡ 384)

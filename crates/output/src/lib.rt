@@ -63,14 +63,14 @@ fn put_out(output: &mut [u8], t: Transmitter, content: &[u8]) -> Tx
 }
 
 // The link once its sender has come this far.
-fn link_sent(l: Link, t: Tx, sent: bool, last: [u8; 2], event: u16) -> Link
-    ensures { λ r. ⌜ r ≡ linkSent l (t .count) (t .wait) sent last event ⌝ }
+fn link_sent(l: Link, s: Tx, sent: bool, last: [u8; 2], event: u16) -> Link
+    ensures { λ r. ⌜ r ≡ linkSent l (s .count) (s .wait) sent last event ⌝ }
 {
     let mut after = l;
     let transmitter = Transmitter {
         flagged: true,
-        count: t.count,
-        wait: t.wait,
+        count: s.count,
+        wait: s.wait,
         sent: sent,
         last: last,
     };

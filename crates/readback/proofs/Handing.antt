@@ -14,22 +14,21 @@ use Rattle.bits.specs.Machine.{outs, outs-append}
 use Rattle.framing.specs.Delimitation.{Receiver, Finding, closed, next, finds, findings}
 use Rattle.sending.specs.Stuffing.{unitBits}
 use Rattle.sending.proofs.Sent.{sent-good, sent-octets}
-use Rattle.filter.specs.Memory.{emptyMemory, settled}
 use Rattle.memory.specs.Lent.{statusOf, nextSlot}
 use Rattle.memory.proofs.Slots.{descriptor-kept}
 use Rattle.monitor.specs.declared.Mode.the-variants.{Off}
 use Rattle.monitor.specs.declared.Limits.{Limits}
 use Rattle.monitor.specs.Monitor.{started, step}
 use Rattle.board.specs.declared.Settings.{Settings}
-use Rattle.board.specs.declared.Counting.{Counting}
 use Rattle.records.specs.declared.Happening.{Happening}
 use Rattle.records.specs.declared.Watch.{Watch}
 use Rattle.records.specs.Happening.{noted}
 use Rattle.records.specs.Record.{watchAfter, recordsOf}
 use Rattle.units.specs.Marks.{Mark, found, octetEnd, octetReceiver, lineMarks}
-use Rattle.units.specs.Desk.{Office, Served, served, deskOf, ticks, tickOf, goodCounts, overCounts, handOver, goodUnit, closedUnit, octetServed, serves, officeAfter, happenings}
+use Rattle.units.specs.Desk.{Office, Served, ticks, tickOf, octetServed, serves, officeAfter, happenings}
 use Rattle.readback.specs.Shelf.{unitOctets, Shelf, shelved, handed, shelfRecord, shelfAfter, shelfRecords}
 use Rattle.readback.specs.Streams.{Allowed, AllAllowed, more}
+use Rattle.readback.proofs.Serving.{over, handed-over}
 use Rattle.readback.proofs.Pieces.{found as closings}
 
 -- ---- the findings among marks
@@ -98,18 +97,12 @@ free-kept k n x c f = go (eqb (x .next + 1) k) refl
         }
 
 -- ---- one unit
-abbrev over : Settings → Office → List ℕ → Served
-over s o c =
-    let d = o .desk in
-    let off : Counting = record { on = false; left = d .counting .left } in
-    served (handOver (s .k) 0 (unitOctets c) o (deskOf off emptyMemory (d .slots .next) (overCounts (goodCounts (d .counts))))) (handed (shelfOf o) c ∷ [])
-
-handed-over : (s : Settings) (o : Office) (c : List ℕ) → s .filter ≡ false → Allowed (s .m) c
+unit-over : (s : Settings) (o : Office) (c : List ℕ) → s .filter ≡ false → Allowed (s .m) c
     → statusOf (o .descriptors) (o .desk .slots .next) ≡ 32768
-    → closedUnit s o (unitBits c) ≡ over s o c
-unfolding closedUnit goodUnit settled
-handed-over s o c e a f =
-    rw (sent-good c (a .least), sent-octets c (a .octets), e, eq-eqb (statusOf (o .descriptors) (o .desk .slots .next)) 32768 f)
+    → serves s o (found (closed (unitBits c))) ≡ over s o (unitOctets c)
+unit-over s o c e a f =
+    handed-over s o (unitBits c) (unitOctets c) (sent-good c (a .least)) (sent-octets c (a .octets)) e
+    (eq-eqb (statusOf (o .descriptors) (o .desk .slots .next)) 32768 f)
 
 -- ---- units in order
 abbrev pub handeds : ℕ → Shelf → List (List ℕ) → List Happening
@@ -143,8 +136,8 @@ module _ (s : Settings) (off : s .filter ≡ false) where
       let g-is : g ≡ closed (unitBits c) = cc in
       let ms-are : foundIn ms ≡ closings cs = cc in
       let empty = f .ahead (o .desk .slots .next) (omega arith) (omega arith) (f .below (omega arith)) in
-      let is : serves s o (found g) ≡ over s o c = ap (λ (x : Finding). serves s o (found x)) g-is ∙ handed-over s o c off a empty in
-      let r = all-handed ms cs (over s o c .office) rest (free-kept (s .k) (length cs) (shelfOf o) c f) refl ms-are in
+      let is : serves s o (found g) ≡ over s o (unitOctets c) = ap (λ (x : Finding). serves s o (found x)) g-is ∙ unit-over s o c off a empty in
+      let r = all-handed ms cs (over s o (unitOctets c) .office) rest (free-kept (s .k) (length cs) (shelfOf o) c f) refl ms-are in
       record {
         all =
             ap (λ (x : Served). x .happenings ++ happenings s (x .office) ms) is

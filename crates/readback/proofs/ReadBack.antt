@@ -1,6 +1,6 @@
 -- What send and fill put on the line, receive hands over: the line of the calls is put together with what a link makes of a line.
 use Prim.Native.Nat.{ℕ, _+_, _*_, _≤_, _<_}
-use mathlib.Core.Path.{_≡_, refl, sym, ap, ap₂, subst, _∙_}
+use mathlib.Core.Path.{_≡_, refl, sym, ap, subst, _∙_}
 use mathlib.Core.Bool.{Bool}
 use mathlib.Core.List.{List, [], _∷_, _++_, append-assoc}
 use native.Mathlib.Omega.{arith}
@@ -16,9 +16,8 @@ use Rattle.output.specs.Transmission.{Sending, send, fill, linkAfter, waitingBi
 use Rattle.output.proofs.Line.{transmitter-line}
 use Rattle.readback.specs.Feeding.{Held, board, Feed, fed, heldAfter, Answered, none, more}
 use Rattle.readback.specs.Shelf.{unitOctets}
-use Rattle.readback.specs.Reading.{Stands}
 use Rattle.readback.specs.Streams.{booked}
-use Rattle.readback.specs.Promises.{Booking, opening, Sends, line, ahead, Stretch, HandedOver, ReadBack, lastSent, FillSends, FillReadBack, AllReadBack, AllReadInTurns}
+use Rattle.readback.specs.Promises.{Booking, opening, Sends, line, ahead, ReadBack, lastSent, FillSends, FillReadBack, AllReadBack, AllReadInTurns}
 use Rattle.readback.proofs.Feeding.{same-settings}
 use Rattle.readback.proofs.Closing.{seam}
 use Rattle.readback.proofs.Standing.{read-back-fed, slot-below, longest, unit-length}

@@ -14,6 +14,7 @@ use Rattle.filter.specs.Memory.{emptyMemory, settled}
 use Rattle.memory.specs.Lent.{statusOf, lengthOf, slotOf, withSlot, withDescriptor, filled}
 use Rattle.memory.proofs.Slots.{slot-written, descriptor-written, filled-length}
 use Rattle.board.specs.declared.Settings.{Settings}
+use Rattle.board.specs.declared.Counting.{Counting}
 use Rattle.records.specs.declared.Happening.{Happening}
 use Rattle.records.specs.declared.Watch.{Watch}
 use Rattle.records.specs.Happening.{noted}
@@ -42,18 +43,18 @@ rest-same s [] o none = octet-end s o
 rest-same s (abort ∷ fs) o (aborted u) = let k = rest-same s fs (nextOffice s o (found abort)) u in record { pool = k .pool; descriptors = k .descriptors }
 rest-same s (long ∷ fs) o (overlong u) = let k = rest-same s fs (nextOffice s o (found long)) u in record { pool = k .pool; descriptors = k .descriptors }
 
--- ---- the good unit
-module _ (s : Settings) (o : Office) (u : List Bool) (os : List ℕ) (good : verdictOf basic u ≡ Good) (octets : wholeOctets u ≡ os)
-    (off : s .filter ≡ false) (free : isFree o ≡ true) where
-  abbrev over : Served
-  over =
-      served
-      (handOver (s .k) 0 os o (deskOf (record { on = false; left = o .desk .counting .left }) emptyMemory (o .desk .slots .next) (overCounts (goodCounts (o .desk .counts)))))
-      (unitOf 0 false os (oneMore (o .desk .counts .good)) false 1 ∷ [])
+-- ---- the good unit: of these octets, handed over
+abbrev pub over : Settings → Office → List ℕ → Served
+over s o os =
+    let d = o .desk in
+    let off : Counting = record { on = false; left = d .counting .left } in
+    served (handOver (s .k) 0 os o (deskOf off emptyMemory (d .slots .next) (overCounts (goodCounts (d .counts)))))
+    (unitOf 0 false os (oneMore (d .counts .good)) false 1 ∷ [])
 
-  handed-over : serves s o (found (closed u)) ≡ over
-  unfolding serves closedUnit goodUnit settled
-  handed-over = rw (good, octets, off, free)
+pub handed-over : (s : Settings) (o : Office) (u : List Bool) (os : List ℕ) → verdictOf basic u ≡ Good → wholeOctets u ≡ os → s .filter ≡ false
+    → isFree o ≡ true → serves s o (found (closed u)) ≡ over s o os
+unfolding serves closedUnit goodUnit settled
+handed-over s o u os good octets off free = rw (good, octets, off, free)
 
 -- ---- its octet
 module _ (s : Settings) (b : Board) (last : ℕ) (u : List Bool) (fs : List Finding) (os : List ℕ)
@@ -70,7 +71,7 @@ module _ (s : Settings) (b : Board) (last : ℕ) (u : List Bool) (fs : List Find
   slot = b .office .desk .slots .next
 
   abbrev this : Served
-  this = over s (b .office) u os good octets off free
+  this = over s (b .office) os
 
   office-then : boardAfter s b (last ∷ []) .office ≡ officeAfter s (this .office) rest
   unfolding boardAfter officeAfter

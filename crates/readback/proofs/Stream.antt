@@ -1,11 +1,9 @@
 -- A transmitter's line that a fresh booking reads: the units whose closing flag is out are handed over, and nothing else happens.
 use Prim.Native.Nat.{ℕ, zero, suc, _+_, _≤_}
 use mathlib.Core.Path.{_≡_, refl, sym, ap, subst, _∙_}
-use mathlib.Core.Bool.{Bool, true, false}
+use mathlib.Core.Bool.{Bool, false}
 use mathlib.Core.List.{List, [], _∷_, _++_}
 use native.Mathlib.Omega.{arith}
-use borrow.Author.Tests.{eqb-true, eqb-false}
-use lib.Dec.{eqb}
 use lib.ListN.{length}
 use Rattle.bits.specs.Octets.{lineBits}
 use Rattle.sending.specs.Stream.{streamLine}
@@ -15,15 +13,12 @@ use Rattle.framing.specs.Delimitation.{newReceiver}
 use Rattle.records.specs.declared.Happening.{Happening}
 use Rattle.records.specs.Record.{recordsOf}
 use Rattle.board.specs.declared.Settings.{Settings}
-use Rattle.board.specs.declared.Link.{Link}
 use Rattle.units.specs.Marks.{lineMarks}
 use Rattle.reception.specs.Line.{Board, limitsOf, boardAfter, lineHappenings, lineRecords}
-use Rattle.link.specs.Refusals.{openNumber}
-use Rattle.link.specs.Calls.{Outcome, outcome, openedLink, openAnswer}
-use Rattle.link.proofs.Answers.{done, refused}
+use Rattle.link.specs.Calls.{Outcome, openedLink}
+use Rattle.link.proofs.Kept.{opened}
 use Rattle.readback.specs.Feeding.{Held, board, heldAfter, recordsFed, octetsFed, Answered}
 use Rattle.readback.specs.Shelf.{Shelf, shelfAfter, shelfRecords}
-use Rattle.readback.specs.Reading.{FedAsOne}
 use Rattle.readback.specs.Streams.{AllAllowed, none, more, allButLast, closedOut, emptyShelf, StreamRead}
 use Rattle.readback.proofs.Feeding.{fed-as-one}
 use Rattle.readback.proofs.Pieces.{stream-found}
@@ -32,23 +27,6 @@ use Rattle.readback.proofs.Handing.{found-line, Free, Handed, all-hande
 -- ---- a booking just opened
 abbrev pub fresh : Settings → List ℕ → Held
 fresh s pool = record { link = openedLink s; pool = pool; descriptors = emptyDescriptors (s .k) }
-
-module _ (l : Link) (s : Settings) (pool descriptors : List ℕ) where
-  abbrev number : ℕ
-  number = openNumber l s pool descriptors
-
-  abbrev yes-opened : Outcome
-  yes-opened = outcome 0 (openedLink s) pool (emptyDescriptors (s .k))
-
-  pub opened : openAnswer l s pool descriptors .number ≡ 0 → openAnswer l s pool descriptors ≡ yes-opened
-  unfolding openAnswer
-  opened e = go (eqb number 0) refl
-    where
-      go : (b : Bool) → eqb number 0 ≡ b → openAnswer l s pool descriptors ≡ yes-opened
-      go true q = done number yes-opened (outcome number l pool descriptors) (eqb-true number 0 q)
-      go false q =
-          let z = eqb-false number 0 q in
-          absurd (z (sym (ap (λ (x : Outcome). x .number) (refused number yes-opened (outcome number l pool descriptors) z)) ∙ e))
 
 -- all its slots are empty
 all-free : (k n : ℕ) (pool : List ℕ) → n ≤ k → Free k n (emptyShelf k pool)
@@ -98,8 +76,8 @@ module _ (s : Settings) (pool xs : List ℕ) (n : ℕ) (cs : List (List ℕ)) (w
     line-descriptors = ap (λ (x : Shelf). x .descriptors) (is .shelf)
 
 -- ---- the calls
-stream-read-by : FedAsOne → StreamRead
-stream-read-by one l s pool descriptors fs n cs w z off answered e h a k =
+pub stream-read : StreamRead
+stream-read l s pool descriptors fs n cs w z off answered e h a k =
     let us = closedOut (length w) cs in
     let shelf = shelfAfter (s .k) (emptyShelf (s .k) pool) us in
     let is = served s pool (octetsFed fs) n cs w off e h a k in
@@ -111,12 +89,9 @@ stream-read-by one l s pool descriptors fs n cs w z off answered e h a k =
     × (heldAfter held fs .descriptors ≡ shelf .descriptors))
     (sym (opened l s pool descriptors z))
     (λ (x : Answered (fresh s pool) fs).
-    let fed = one (fresh s pool) fs x in (
+    let fed = fed-as-one (fresh s pool) fs x in (
       fed .1 ∙ line-records s pool (octetsFed fs) n cs w is,
       ap (λ (b : Board). b .office .pool) (fed .0) ∙ line-pool s pool (octetsFed fs) n cs w is,
       ap (λ (b : Board). b .office .descriptors) (fed .0) ∙ line-descriptors s pool (octetsFed fs) n cs w is,
     ))
     answered
-
-pub stream-read : StreamRead
-stream-read = stream-read-by fed-as-one

@@ -28,6 +28,7 @@ use Rattle.reception.specs.Line.{Board, limitsOf, boardAfter, lineHappenings, l
 use Rattle.link.specs.Refusals.{pick, readNumber}
 use Rattle.link.specs.Calls.{Outcome, outcome, openedLink, handAnswer}
 use Rattle.link.specs.Receive.{ReceiveOutcome}
+use Rattle.link.proofs.Kept.{opened}
 use Rattle.link.proofs.Cutting.{answered}
 use Rattle.readback.specs.Feeding.{Held, board, Feed, answer, fed, wrote}
 use Rattle.readback.specs.Shelf.{Shelf, shelfAfter, shelfRecords}
@@ -40,7 +41,7 @@ use Rattle.readback.proofs.Pieces.{stream-found}
 use Rattle.readback.proofs.Pieces.{found as closings}
 use Rattle.readback.proofs.Handing.{foundIn, found-line, Free, Handed, all-handed, unwatched, handed-records, handed-unwatched}
 use Rattle.readback.proofs.Handing.{shelfOf as deskShelf}
-use Rattle.readback.proofs.Stream.{fresh, opened, closed-allowed}
+use Rattle.readback.proofs.Stream.{fresh, closed-allowed}
 
 -- ---- findings in two parts are those of units in two parts
 record Parted (us : List (List ℕ)) (xs ys : List Finding) : Type 0 where

@@ -18,11 +18,11 @@ use Rattle.units.specs.Marks.{lineMarks}
 use Rattle.reception.specs.Line.{Board, boardAfter, lineHappenings}
 use Rattle.reception.specs.Writing.{holding, Ready, marksDone}
 use Rattle.reception.proofs.Octets.{ready-kept}
-use Rattle.link.specs.Refusals.{first, fitsMemory, openNumber, readNumber, receiveNumber}
-use Rattle.link.specs.Calls.{Outcome, outcome, openedLink, openAnswer, readPart}
+use Rattle.link.specs.Refusals.{first, fitsMemory, readNumber, receiveNumber}
+use Rattle.link.specs.Calls.{Outcome, openedLink, readPart}
 use Rattle.link.specs.Receive.{ReceiveOutcome, progressOf, linkOf, received, receiveAnswer}
 use Rattle.link.proofs.Answers.{done, openable}
-use Rattle.link.proofs.Kept.{open-number}
+use Rattle.link.proofs.Kept.{open-number, opened}
 use Rattle.link.proofs.Receiving.{Receivable, receivable, limits, ready}
 use Rattle.readback.specs.Feeding.{Held, board, Feed, answer, fed, heldAfter}
 use Rattle.readback.specs.Feeding.{none as no-calls, more as one-call}
@@ -63,13 +63,9 @@ opened-order s r =
     }
 
 pub open-in-use : OpenInUse
-unfolding openAnswer
 open-in-use l s pool descriptors e =
-    let z : openNumber l s pool descriptors ≡ 0 = sym (open-number l s pool descriptors) ∙ e in
-    let ok = openable l s pool descriptors z in
-    subst (λ (o : Outcome). InUse (record { link = o .link; pool = o .pool; descriptors = o .descriptors }))
-    (sym (done (openNumber l s pool descriptors) (outcome 0 (openedLink s) pool (emptyDescriptors (s .k)))
-    (outcome (openNumber l s pool descriptors) l pool descriptors) z))
+    let ok = openable l s pool descriptors (sym (open-number l s pool descriptors) ∙ e) in
+    subst (λ (o : Outcome). InUse (record { link = o .link; pool = o .pool; descriptors = o .descriptors })) (sym (opened l s pool descriptors e))
     (record {
       opened = refl;
       formed = orderly (openedLink s) refl (ok .range) (opened-order s (ranges s (ok .range)));

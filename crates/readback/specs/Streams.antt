@@ -1,7 +1,7 @@
 -- What is promised of a transmitter's line that a fresh booking reads. The proofs are in proofs/Stream.antt.
 use Prim.Native.Nat.{ℕ, zero, suc, _+_, _≤_}
 use mathlib.Core.Path.{_≡_}
-use mathlib.Core.Bool.{Bool, true, false}
+use mathlib.Core.Bool.{Bool, false}
 use mathlib.Core.List.{List, [], _∷_, _++_}
 use lib.ListN.{length}
 use Rattle.bits.specs.Octets.{lineBits, Octets}

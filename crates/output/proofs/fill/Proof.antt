@@ -1,6 +1,6 @@
 -- `output::fill` meets its contract: refused, a flag before any content, or the fill-in unit of the last content.
 use Prim.Native.Nat.{ℕ}
-use mathlib.Core.Path.{_≡_, sym, subst, _∙_}
+use mathlib.Core.Path.{sym, subst, _∙_}
 use mathlib.Core.List.{List}
 use native.Mathlib.Omega.{arith}
 use borrow.Author.Tests.{not-true, not-false}
@@ -13,34 +13,22 @@ use Rattle.output.proofs.Outputs.{fill-number, fillable, ready, unit-ro
 use borrow.Author.Needs.{needs}
 use Rattle.output.proofs.fill.Statement.{statement}
 use Rattle.output.proofs.fill.Tie as tie
-use Rattle.output.proofs.fill.Reads as reads
-use Rattle.output.proofs.fill.Lts as lts
-use Rattle.output.proofs.link_sent.Reads as link-sent-reads
-use Rattle.output.proofs.put_out.Reads as put-out-reads
-use Rattle.output.proofs.sender_of.Reads as sender-of-reads
-use Rattle.output.proofs.shared_number.Reads as shared-number-reads
-use Rattle.sending.proofs.put_flag.Reads as put-flag-reads
 
--- src/lib.rt:109:9
 shared-number-requires : tie.Need-shared-number-requires
 shared-number-requires c κs = search needs
 
--- src/lib.rt:111:9
 same-length : tie.Need-same-length
 same-length c = search needs
 
--- src/lib.rt:111:9
 returns : tie.Need-returns
 returns c =
     let a = c .before .before .before .before .args in
     let n = c .before .shared-number in
     fill-refused (a .l) (a .output .now) (n .result) (fill-number (a .l) (a .output .now) (n .result) (n .ensures)) (c .if1 .taken)
 
--- src/lib.rt:120:13
 sender-of-requires : tie.Need-sender-of-requires
 sender-of-requires c κs = search needs
 
--- src/lib.rt:121:13
 put-flag-requires : tie.Need-put-flag-requires
 put-flag-requires c κs =
     let s = c .before .before .before .before .before .before .before .before .before .before in
@@ -51,15 +39,12 @@ put-flag-requires c κs =
     subst (λ (x : Tx). Ready x × Room x flag (a .output .now)) (sym (c .before .sender-of .ensures))
     (ready (a .l) (ok .order) (s .good .0 .1 .1 .1 .1 .1 .1 .1 .1 .1 .1 .1 .0 .1 .1 .1 .1 .0 .1), flag-room (a .l) (a .output .now) ok)
 
--- src/lib.rt:122:13
 link-sent-requires : tie.Need-link-sent-requires
 link-sent-requires c κs = search needs
 
--- src/lib.rt:123:9
 same-length-2 : tie.Need-same-length-2
 same-length-2 c = search needs
 
--- src/lib.rt:123:9
 returns-2 : tie.Need-returns-2
 returns-2 c =
     let a = c .before .before .before .before .before .before .before .before .before .before .before .before .before .before .args in
@@ -69,19 +54,15 @@ returns-2 c =
     flag-done (a .l) (a .output .now) (n .result) e (f .result) (f .last .0) (c .link-sent .result) (c .before .before .before .before .before .before .before .before .before .before .if1 .left) (not-true _ (c .before .before .before .before .before .before .if2 .taken))
     (subst (λ (x : Tx). Puts (a .output .now) x flag 0 (f .result) (f .last .0)) (c .before .before .before .before .before .sender-of .ensures) (f .ensures)) (c .link-sent .ensures)
 
--- src/lib.rt:129:20
 array-read-t20 : tie.Need-array-read-t20
 array-read-t20 c = search needs
 
--- src/lib.rt:129:29
 array-read-t23 : tie.Need-array-read-t23
 array-read-t23 c = search needs
 
--- src/lib.rt:130:32
 slice-aggregate-put-out : tie.Need-slice-aggregate-put-out
 slice-aggregate-put-out c = search needs
 
--- src/lib.rt:130:9
 put-out-requires : tie.Need-put-out-requires
 put-out-requires c κs =
     let s = c .before .before .before .before .before .before .before .before .before .before in
@@ -92,15 +73,12 @@ put-out-requires c κs =
     let typed = array-of-octets 2 (a .l .transmitter .last) _ (s .good .0 .1 .1 .1 .1 .1 .1 .1 .1 .1 .1 .1 .0 .1 .1 .1 .1 .1 .1 .0) in
     (ready (a .l) (ok .order) (s .good .0 .1 .1 .1 .1 .1 .1 .1 .1 .1 .1 .1 .0 .1 .1 .1 .1 .0 .1), unit-room (a .l) _ (a .output .now) ok (omega arith))
 
--- src/lib.rt:131:9
 link-sent-requires-2 : tie.Need-link-sent-requires-2
 link-sent-requires-2 c κs = search needs
 
--- src/lib.rt:106:1
 same-length-3 : tie.Need-same-length-3
 same-length-3 c = search needs
 
--- src/lib.rt:106:1
 returns-3 : tie.Need-returns-3
 returns-3 c =
     let s = c .before .before .before .before .before .before .before .before .before .before .before .before .before .before in

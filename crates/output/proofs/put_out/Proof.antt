@@ -7,17 +7,10 @@ use Rattle.output.proofs.Outputs.{flagged-room, flagged-puts, first-roo
 use borrow.Author.Needs.{needs}
 use Rattle.output.proofs.put_out.Statement.{statement}
 use Rattle.output.proofs.put_out.Tie as tie
-use Rattle.output.proofs.put_out.Reads as reads
-use Rattle.output.proofs.put_out.Lts as lts
-use Rattle.output.proofs.sender_of.Reads as sender-of-reads
-use Rattle.sending.proofs.put_flag.Reads as put-flag-reads
-use Rattle.sending.proofs.put_unit.Reads as put-unit-reads
 
--- src/lib.rt:57:9
 sender-of-requires : tie.Need-sender-of-requires
 sender-of-requires c κs = search needs
 
--- src/lib.rt:59:9
 put-unit-requires : tie.Need-put-unit-requires
 put-unit-requires c κs =
     let s = c .before .before .before .before .before in
@@ -25,11 +18,9 @@ put-unit-requires c κs =
     subst (λ (x : Tx). Ready x × Room x (unitLine (a .content .now)) (a .output .now)) (sym (c .before .before .sender-of .ensures))
     (s .pre .0, flagged-room (a .t) (a .content .now) (a .output .now) (c .before .if1 .taken) (s .pre .1))
 
--- src/lib.rt:59:9
 same-length : tie.Need-same-length
 same-length c = search needs
 
--- src/lib.rt:59:9
 returns : tie.Need-returns
 returns c =
     let a = c .before .before .before .before .before .before .before .before .args in
@@ -37,7 +28,6 @@ returns c =
     flagged-puts (a .t) (a .content .now) (a .output .now) (c .before .before .before .before .if1 .taken) (p .result) (p .last .0)
     (subst (λ (x : Tx). Puts (a .output .now) x (unitLine (a .content .now)) 0 (p .result) (p .last .0)) (c .before .before .before .before .before .sender-of .ensures) (p .ensures))
 
--- src/lib.rt:61:9
 put-flag-requires : tie.Need-put-flag-requires
 put-flag-requires c κs =
     let s = c .before .before .before .before .before in
@@ -45,7 +35,6 @@ put-flag-requires c κs =
     subst (λ (x : Tx). Ready x × Room x flag (a .output .now)) (sym (c .before .before .sender-of .ensures))
     (s .pre .0, first-room (a .t) (a .content .now) (a .output .now) (c .before .if1 .left) (s .pre .1))
 
--- src/lib.rt:62:5
 put-unit-requires-2 : tie.Need-put-unit-requires-2
 put-unit-requires-2 c κs =
     let s = c .before .before .before .before .before .before .before .before .before in
@@ -54,11 +43,9 @@ put-unit-requires-2 c κs =
     then-ready (a .t) (a .content .now) (a .output .now) (c .before .before .before .before .before .if1 .left) (s .pre .1) (f .result) (f .last .0)
     (subst (λ (x : Tx). Puts (a .output .now) x flag 0 (f .result) (f .last .0)) (c .before .before .before .before .before .before .sender-of .ensures) (f .ensures))
 
--- src/lib.rt:53:1
 same-length-2 : tie.Need-same-length-2
 same-length-2 c = search needs
 
--- src/lib.rt:53:1
 returns-2 : tie.Need-returns-2
 returns-2 c =
     let s = c .before .before .before .before .before .before .before .before .before .before .before .before in

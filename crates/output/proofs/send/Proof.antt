@@ -7,27 +7,18 @@ use Rattle.output.proofs.Outputs.{sendable, ready, unit-room, send-refu
 use borrow.Author.Needs.{needs}
 use Rattle.output.proofs.send.Statement.{statement}
 use Rattle.output.proofs.send.Tie as tie
-use Rattle.output.proofs.send.Reads as reads
-use Rattle.output.proofs.send.Lts as lts
-use Rattle.output.proofs.link_sent.Reads as link-sent-reads
-use Rattle.output.proofs.put_out.Reads as put-out-reads
-use Rattle.output.proofs.send_number.Reads as send-number-reads
 
--- src/lib.rt:86:9
 send-number-requires : tie.Need-send-number-requires
 send-number-requires c κs = search needs
 
--- src/lib.rt:88:9
 same-length : tie.Need-same-length
 same-length c = search needs
 
--- src/lib.rt:88:9
 returns : tie.Need-returns
 returns c =
     let a = c .before .before .before .before .before .args in
     send-refused (a .l) (a .content .now) (a .output .now) (c .before .send-number .result) (c .before .send-number .ensures) (c .if1 .taken)
 
--- src/lib.rt:95:9
 put-out-requires : tie.Need-put-out-requires
 put-out-requires c κs =
     let s = c .before .before .before .before .before .before .before in
@@ -35,7 +26,6 @@ put-out-requires c κs =
     let ok = sendable (a .l) (a .content .now) (a .output .now) (sym (c .before .before .before .send-number .ensures) ∙ c .before .before .if1 .left) in
     (ready (a .l) (ok .0 .order) (s .good .0 .1 .1 .1 .1 .1 .1 .1 .1 .1 .1 .1 .0 .1 .1 .1 .1 .0 .1), unit-room (a .l) (a .content .now) (a .output .now) (ok .0) (ok .2))
 
--- src/lib.rt:96:17
 shared-slice-read-t15 : tie.Need-shared-slice-read-t15
 shared-slice-read-t15 c =
     let s = c .before .before .before .before .before .before .before .before .before .before .before in
@@ -44,7 +34,6 @@ shared-slice-read-t15 c =
     let h : 0 < length (a .content .now) = omega (arith, ok .1) in
     search (needs, h)
 
--- src/lib.rt:96:29
 shared-slice-read-t17 : tie.Need-shared-slice-read-t17
 shared-slice-read-t17 c =
     let s = c .before .before .before .before .before .before .before .before .before .before .before .before in
@@ -53,15 +42,12 @@ shared-slice-read-t17 c =
     let h : 1 < length (a .content .now) = omega (arith, ok .1) in
     search (needs, h)
 
--- src/lib.rt:97:9
 link-sent-requires : tie.Need-link-sent-requires
 link-sent-requires c κs = search needs
 
--- src/lib.rt:83:1
 same-length-2 : tie.Need-same-length-2
 same-length-2 c = search needs
 
--- src/lib.rt:83:1
 returns-2 : tie.Need-returns-2
 returns-2 c =
     let a = c .before .before .before .before .before .before .before .before .before .before .before .before .before .args in

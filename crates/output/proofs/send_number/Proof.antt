@@ -4,20 +4,13 @@ use Rattle.output.specs.Refusals.{sendNumber}
 use borrow.Author.Needs.{needs}
 use Rattle.output.proofs.send_number.Statement.{statement}
 use Rattle.output.proofs.send_number.Tie as tie
-use Rattle.output.proofs.send_number.Reads as reads
-use Rattle.output.proofs.send_number.Lts as lts
-use Rattle.link.proofs.refuse.Reads as refuse-reads
-use Rattle.output.proofs.shared_number.Reads as shared-number-reads
 
--- src/lib.rt:36:9
 refuse-requires : tie.Need-refuse-requires
 refuse-requires c κs = search needs
 
--- src/lib.rt:37:5
 shared-number-requires : tie.Need-shared-number-requires
 shared-number-requires c κs = search needs
 
--- src/lib.rt:31:1
 returns : tie.Need-returns
 unfolding sendNumber first
 returns c = rw (c .shared-number .ensures, c .before .refuse .ensures)

@@ -2,28 +2,19 @@
 use borrow.Author.Needs.{needs}
 use Rattle.output.proofs.shared_number.Statement.{statement}
 use Rattle.output.proofs.shared_number.Tie as tie
-use Rattle.output.proofs.shared_number.Reads as reads
-use Rattle.output.proofs.shared_number.Lts as lts
-use Rattle.board.proofs.order.is_malformed.Reads as is-malformed-reads
-use Rattle.link.proofs.refuse.Reads as refuse-reads
 
--- src/lib.rt:24:9
 is-malformed-requires : tie.Need-is-malformed-requires
 is-malformed-requires c κs = search needs
 
--- src/lib.rt:25:9
 refuse-requires : tie.Need-refuse-requires
 refuse-requires c κs = search needs
 
--- src/lib.rt:26:9
 refuse-requires-2 : tie.Need-refuse-requires-2
 refuse-requires-2 c κs = search needs
 
--- src/lib.rt:27:5
 refuse-requires-3 : tie.Need-refuse-requires-3
 refuse-requires-3 c κs = search needs
 
--- src/lib.rt:21:1
 returns : tie.Need-returns
 returns c = rw (c .refuse3 .ensures, c .before .refuse2 .ensures, c .before .before .before .refuse .ensures, c .before .before .before .before .is-malformed .ensures)
 
