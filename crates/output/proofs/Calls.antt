@@ -33,27 +33,27 @@ abbrev pub bitsOut : Link → Sending → List Bool
 bitsOut l (send content output) = unitOut (l .transmitter) content
 bitsOut l (fill output) = fillOut (l .transmitter)
 
-abbrev sentThen : Link → Sending → Bool
+abbrev pub sentThen : Link → Sending → Bool
 sentThen l (send content output) = true
 sentThen l (fill output) = l .transmitter .sent
 
-abbrev lastThen : Link → Sending → List ℕ
+abbrev pub lastThen : Link → Sending → List ℕ
 lastThen l (send content output) = take 2 content
 lastThen l (fill output) = l .transmitter .last
 
-abbrev eventThen : Link → Sending → ℕ
+abbrev pub eventThen : Link → Sending → ℕ
 eventThen l (send content output) = 128
 eventThen l (fill output) = fillEvent (l .transmitter .sent)
 
-abbrev numberOf : Link → Sending → ℕ
+abbrev pub numberOf : Link → Sending → ℕ
 numberOf l (send content output) = sendNumber l content output
 numberOf l (fill output) = fillNumber l output
 
-abbrev put : Link → Sending → OutputOutcome
+abbrev pub put : Link → Sending → OutputOutcome
 put l s = putOut l (bitsOut l s) (sentThen l s) (lastThen l s) (eventThen l s) (areaOf s)
 
 -- ---- a call is accepted or refused
-is-done : (l : Link) (s : Sending) → numberOf l s ≡ 0 → answer l s ≡ put l s
+pub is-done : (l : Link) (s : Sending) → numberOf l s ≡ 0 → answer l s ≡ put l s
 unfolding sendAnswer fillAnswer
 is-done l (send content output) z = done _ _ _ z
 is-done l (fill output) z = done _ _ _ z

@@ -22,10 +22,10 @@ use Rattle.output.proofs.Outputs.{sendable}
 use Rattle.output.proofs.Calls.{bitsOut, Few, Put, accepted, one-call, few-wait, then-is}
 
 -- ---- the last content's first two octets stay two
-abbrev Two : Link → Type 0
+abbrev pub Two : Link → Type 0
 Two l = length (l .transmitter .last) ≡ 2
 
-few-two : (l : Link) (s : Sending) → Two l → Few l s
+pub few-two : (l : Link) (s : Sending) → Two l → Few l s
 few-two l (send content output) h = tt
 few-two l (fill output) h = h
 
@@ -34,7 +34,7 @@ take-two [] h = absurd (omega arith)
 take-two (a ∷ []) h = absurd (omega arith)
 take-two (a ∷ b ∷ cs) h = refl
 
-two-kept : (l : Link) (s : Sending) → Two l → Put l s → Two (sentOn l s)
+pub two-kept : (l : Link) (s : Sending) → Two l → Put l s → Two (sentOn l s)
 two-kept l (send content output) h p =
     ap (λ (t : Transmitter). length (t .last)) (then-is l (send content output) p) ∙ take-two content (sendable l content output (p .number) .1)
 two-kept l (fill output) h p = ap (λ (t : Transmitter). length (t .last)) (then-is l (fill output) p) ∙ h

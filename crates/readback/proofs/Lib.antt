@@ -9,5 +9,6 @@ pub mod Handing
 pub mod Stream
 pub mod Ordered
 pub mod Using
+pub mod Sends
 pub mod Turns
 pub mod ReadBack

@@ -9,6 +9,7 @@ use Rattle.board.specs.declared.Link.{Link}
 use Rattle.board.specs.Order.{malformed}
 use Rattle.link.specs.Refusals.{fitsMemory, readNumber}
 use Rattle.link.specs.Calls.{openAnswer, readPart}
+use Rattle.output.specs.Transmission.{Sending, send, fill, linkAfter, Accepted}
 use Rattle.readback.specs.Feeding.{Held, Feed, heldAfter, Answered}
 use Rattle.readback.specs.Reading.{Stands}
 use Rattle.readback.specs.Streams.{booked}
@@ -38,3 +39,21 @@ abbrev pub StandsRead : Type 0
 StandsRead =
     (h : Held) (slot : ℕ) (unit : List ℕ) → InUse h → slot < h .link .settings .k → length unit ≤ 278 → Stands h slot unit
     → (readNumber (h .link) (h .pool) (h .descriptors) slot ≡ 0) × (readPart (h .link) (h .pool) (h .descriptors) slot ≡ unit)
+
+-- content of 3 to 276 octets, and an output area of 336 octets
+abbrev pub Fitting : Sending → Type 0
+Fitting (send content output) = (3 ≤ length content) × (length content ≤ 276) × (336 ≤ length output)
+Fitting (fill output) = 336 ≤ length output
+
+pub data AllFitting : List Sending → Type 0 where
+  none : AllFitting []
+  more : {s : Sending} {ss : List Sending} → Fitting s → AllFitting ss → AllFitting (s ∷ ss)
+
+-- A link in use, its last content's two octets being two as their type says, accepts every such send and fill, and stays in use.
+abbrev pub sentHeld : Held → List Sending → Held
+sentHeld h ss = record { link = linkAfter (h .link) ss; pool = h .pool; descriptors = h .descriptors }
+
+abbrev pub SendsInUse : Type 0
+SendsInUse =
+    (h : Held) (ss : List Sending) → length (h .link .transmitter .last) ≡ 2 → InUse h → AllFitting ss
+    → Accepted (h .link) ss × InUse (sentHeld h ss)
