@@ -12,8 +12,8 @@ use Rattle.sending.specs.Stuffing.{unitLine}
 use Rattle.sending.specs.Stream.{flags, flagsBefore, unitsLine, streamLine}
 use Rattle.board.specs.declared.Settings.{Settings}
 use Rattle.reception.specs.Line.{boardAfter}
-use Rattle.output.specs.Transmission.{Sending, send, fill, linkAfter, waitingBits, fillsFirst, contentsFrom, contents}
-use Rattle.output.proofs.Line.{transmitter-line}
+use Rattle.transmission.specs.Transmission.{Sending, send, fill, linkAfter, waitingBits, fillsFirst, contentsFrom, contents}
+use Rattle.transmission.proofs.Line.{transmitter-line}
 use Rattle.readback.specs.Feeding.{Held, board, Feed, fed, heldAfter, Answered, none, more}
 use Rattle.readback.specs.Shelf.{unitOctets}
 use Rattle.readback.specs.Streams.{booked}

@@ -16,10 +16,10 @@ use Rattle.board.proofs.Orders.{InOrder, in-order}
 use Rattle.link.specs.Refusals.{first}
 use Rattle.output.specs.Refusals.{sendNumber, fillNumber}
 use Rattle.output.specs.Output.{OutputOutcome, sender}
-use Rattle.output.specs.Transmission.{Sending, send, fill, answer, sentOn, linkAfter}
-use Rattle.output.specs.Transmission.{none as no-calls, more as one-call}
-use Rattle.output.proofs.Calls.{bitsOut, numberOf, put, accepted, is-done}
-use Rattle.output.proofs.Line.{few-two, two-kept}
+use Rattle.transmission.specs.Transmission.{Sending, send, fill, answer, sentOn, linkAfter}
+use Rattle.transmission.specs.Transmission.{none as no-calls, more as one-call}
+use Rattle.transmission.proofs.Calls.{bitsOut, numberOf, put, accepted, is-done}
+use Rattle.transmission.proofs.Line.{few-two, two-kept}
 use Rattle.readback.specs.Feeding.{Held}
 use Rattle.readback.specs.Using.{InUse, Fitting, none, more, SendsInUse}
 use Rattle.readback.proofs.Ordered.{orderly, in-range, packed-past}

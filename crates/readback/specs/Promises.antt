@@ -13,7 +13,7 @@ use Rattle.board.specs.declared.Link.{Link}
 use Rattle.units.specs.Desk.{Office, isFree}
 use Rattle.reception.specs.Line.{boardAfter}
 use Rattle.link.specs.Calls.{Outcome, openAnswer, readPart}
-use Rattle.output.specs.Transmission.{Sending, send, fill, linkAfter, octetsSent, Accepted, waitingBits, fillsFirst, contentsFrom, contents}
+use Rattle.transmission.specs.Transmission.{Sending, send, fill, linkAfter, octetsSent, Accepted, waitingBits, fillsFirst, contentsFrom, contents}
 use Rattle.readback.specs.Feeding.{Held, board, Feed, heldAfter, recordsFed, octetsFed}
 use Rattle.readback.specs.Shelf.{unitOctets, shelfAfter, shelfRecords}
 use Rattle.readback.specs.Reading.{Stands, Reported}

@@ -9,7 +9,7 @@ use Rattle.board.specs.declared.Link.{Link}
 use Rattle.board.specs.Order.{malformed}
 use Rattle.link.specs.Refusals.{fitsMemory, readNumber}
 use Rattle.link.specs.Calls.{openAnswer, readPart}
-use Rattle.output.specs.Transmission.{Sending, send, fill, linkAfter, Accepted}
+use Rattle.transmission.specs.Transmission.{Sending, send, fill, linkAfter, Accepted}
 use Rattle.readback.specs.Feeding.{Held, Feed, heldAfter, Answered}
 use Rattle.readback.specs.Reading.{Stands}
 use Rattle.readback.specs.Streams.{booked}

@@ -9,11 +9,11 @@ use Rattle.sending.specs.Stuffing.{flag, stuffed, unitBits, unitLine}
 use Rattle.board.specs.Link.{clearArea}
 use Rattle.board.specs.Order.{noOnes, zeroPast, inRange, lineOut, counterOut, monitorOut, transmitterOut, outOfOrder, malformed}
 use Rattle.link.specs.Refusals.{first}
 use Rattle.output.specs.Refusals.{sendNumber, fillNumber}
 use Rattle.output.specs.Output.{unitOut, fillOut, sendAnswer, fillAnswer}
-use Rattle.output.specs.Transmission.{send, linkAfter, octetsSent}
-use Rattle.output.specs.Promises.{P14, ThreeSent}
-use Rattle.output.proofs.Calls.{accepted, one-call}
+use Rattle.transmission.specs.Transmission.{send, linkAfter, octetsSent}
+use Rattle.transmission.specs.Promises.{P14, ThreeSent}
+use Rattle.transmission.proofs.Calls.{accepted, one-call}
 
 pub p14 : P14
 unfolding unitOut unitLine unitBits lineBits bitsOf

@@ -1,4 +1,4 @@
--- What is promised of send and fill. The proofs are in proofs/Faults.antt, proofs/Line.antt and proofs/Cases.antt.
+-- What is promised of send and fill. The proofs are in proofs/Faults.antt, proofs/Calls.antt, proofs/Line.antt and proofs/Cases.antt.
 use Prim.Native.Nat.{ℕ, _≤_}
 use mathlib.Core.Path.{_≡_}
 use mathlib.Core.Bool.{Bool, true, false}
@@ -11,9 +11,9 @@ use Rattle.board.specs.declared.Link.{Link}
 use Rattle.board.specs.Promises.{Sized}
 use Rattle.link.specs.Refusals.{rising}
 use Rattle.link.specs.Calls.{openedLink, openAnswer}
 use Rattle.output.specs.Refusals.{sendFaults, fillFaults, sendNumber, fillNumber}
 use Rattle.output.specs.Output.{firstFlag, notSent, sendAnswer, fillAnswer}
-use Rattle.output.specs.Transmission.{Sending, send, fill, areaOf, answer, sentOn, wentOut, linkAfter, octetsSent, Accepted, waitingBits, fillsFirst, contents}
+use Rattle.transmission.specs.Transmission.{Sending, send, fill, areaOf, answer, sentOn, wentOut, linkAfter, octetsSent, Accepted, waitingBits, fillsFirst, contents}
 
 -- D1.2: the faults are asked in rising number, and a refused call changes nothing.
 abbrev pub OutputRises : Type 0

@@ -2,8 +2,8 @@
 use mathlib.Core.Path.{refl}
 use Rattle.link.specs.Refusals.{rising}
 use Rattle.link.proofs.Answers.{refused}
 use Rattle.output.specs.Output.{sendAnswer, fillAnswer}
-use Rattle.output.specs.Promises.{OutputRises, RefusedSend, RefusedFill}
+use Rattle.transmission.specs.Promises.{OutputRises, RefusedSend, RefusedFill}
 
 pub output-rises : OutputRises
 unfolding rising

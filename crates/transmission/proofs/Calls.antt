@@ -21,12 +21,12 @@ use Rattle.board.specs.Promises.{Sized}
 use Rattle.board.proofs.Orders.{InOrder}
 use Rattle.link.specs.Refusals.{pick}
 use Rattle.link.proofs.Answers.{done}
 use Rattle.output.specs.Refusals.{sendNumber, fillNumber}
 use Rattle.output.specs.Output.{OutputOutcome, sender, firstFlag, unitOut, fillIn, fillOut, fillEvent, putOut, notSent, sendAnswer, fillAnswer}
-use Rattle.output.specs.Transmission.{Sending, send, fill, areaOf, answer, sentOn, wentOut, waitingBits}
-use Rattle.output.specs.Promises.{FewSent, RestUnchanged}
+use Rattle.transmission.specs.Transmission.{Sending, send, fill, areaOf, answer, sentOn, wentOut, waitingBits}
+use Rattle.transmission.specs.Promises.{FewSent, RestUnchanged}
 use Rattle.output.proofs.Outputs.{fillable, sendable, first-short}
-use Rattle.output.proofs.Faults.{refused-send, refused-fill}
+use Rattle.transmission.proofs.Faults.{refused-send, refused-fill}
 
 -- what a call puts behind the bits that wait, and what its link keeps
 abbrev pub bitsOut : Link → Sending → List Bool

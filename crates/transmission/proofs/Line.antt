@@ -15,11 +15,11 @@ use Rattle.board.specs.declared.Settings.{Settings}
 use Rattle.board.specs.declared.Link.{Link}
 use Rattle.link.specs.Calls.{Outcome, openedLink}
 use Rattle.link.proofs.Kept.{opened}
 use Rattle.output.specs.Output.{firstFlag, unitOut, fillIn, fillOut}
-use Rattle.output.specs.Transmission.{Sending, send, fill, answer, sentOn, wentOut, linkAfter, octetsSent, Accepted, none, more, waitingBits, fillsFirst, contentsFrom, contents}
-use Rattle.output.specs.Promises.{TransmitterLine}
+use Rattle.transmission.specs.Transmission.{Sending, send, fill, answer, sentOn, wentOut, linkAfter, octetsSent, Accepted, none, more, waitingBits, fillsFirst, contentsFrom, contents}
+use Rattle.transmission.specs.Promises.{TransmitterLine}
 use Rattle.output.proofs.Outputs.{sendable}
-use Rattle.output.proofs.Calls.{bitsOut, Few, Put, accepted, one-call, few-wait, then-is}
+use Rattle.transmission.proofs.Calls.{bitsOut, Few, Put, accepted, one-call, few-wait, then-is}
 
 -- ---- the last content's first two octets stay two
 abbrev pub Two : Link → Type 0

@@ -1,0 +1,5 @@
+-- Proofs of what sends and fills put on the line.
+pub mod Faults
+pub mod Calls
+pub mod Line
+pub mod Cases

@@ -1,0 +1,3 @@
+-- What sends and fills put on the line.
+pub mod Transmission
+pub mod Promises

@@ -1,0 +1,1 @@
+// No code: what sends and fills put on the line, over lists of calls.
