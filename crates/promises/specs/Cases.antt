@@ -1,18 +1,15 @@
 -- Cases of document 01 through receive: P2, P6, P12 and P13.
-use Prim.Native.Nat.{ℕ}
+use Prim.Native.Nat.{ℕ, zero, suc}
 use mathlib.Core.Path.{_≡_}
 use mathlib.Core.Bool.{Bool, true, false}
-use mathlib.Core.List.{List, [], _∷_, _++_, map}
-use lib.ListN.{replicate}
+use mathlib.Core.List.{List, [], _∷_, _++_}
+use lib.ListN.{replicate, getD, drop}
 use Rattle.memory.specs.Lent.{emptyDescriptors}
-use Rattle.records.specs.declared.Happening.{Happening}
 use Rattle.board.specs.declared.Settings.{Settings}
 use Rattle.board.specs.declared.Link.{Link}
 use Rattle.board.specs.Rows.{rowOf}
-use Rattle.units.specs.Desk.{office}
-use Rattle.reception.specs.Line.{Board, boardAfter, lineHappenings}
-use Rattle.link.specs.Calls.{openedLink, obeyed}
-use Rattle.link.specs.Receive.{boardOf, receiveAnswer}
+use Rattle.link.specs.Calls.{openedLink, obeyed, handAnswer}
+use Rattle.link.specs.Receive.{ReceiveOutcome, receiveAnswer}
 use Rattle.link.specs.LinePromises.{written}
 
 -- row 1 with k slots, a mask that keeps all bits, and the filter on or off
@@ -42,16 +39,25 @@ P2 =
     → let o = receiveAnswer (started 16 false) (126 ∷ 0 ∷ 0 ∷ 0 ∷ 126 ∷ []) pool (emptyDescriptors 16) records in
     o .number ≡ 0 → written o ≡ 5 ∷ 0 ∷ 3 ∷ 0 ∷ replicate 12 0
 
--- the kinds of what a line brings, on an open board with all slots empty
-abbrev pub kind : Happening → ℕ
-kind h = h .kind
+-- the kinds of the records that a call wrote: octet 0 of each sixteen
+unfoldable pub firsts : ℕ → List ℕ → List ℕ
+firsts zero records = []
+firsts (suc n) records = getD records 0 0 ∷ firsts n (drop 16 records)
 
-abbrev pub kinds : ℕ → Bool → List ℕ → List ℕ → List ℕ
-kinds k filter pool line = map kind (lineHappenings (bench k filter) (boardOf (started k filter) pool (emptyDescriptors k)) line)
+abbrev pub kinds : ReceiveOutcome → List ℕ
+kinds o = firsts (o .count) (written o)
+
+-- a line received on that board with all slots empty
+abbrev pub onBench : Bool → List ℕ → List ℕ → List ℕ → ReceiveOutcome
+onBench filter line pool records = receiveAnswer (started 16 filter) line pool (emptyDescriptors 16) records
 
 -- P6: 39 zero bits between flags are short, 40 aren't.
 abbrev pub P6 : Type 0
-P6 = (pool : List ℕ) → (kinds 16 false pool (126 ∷ 0 ∷ 0 ∷ 0 ∷ 0 ∷ 0 ∷ 191 ∷ []) ≡ 5 ∷ []) × (kinds 16 false pool (126 ∷ 0 ∷ 0 ∷ 0 ∷ 0 ∷ 0 ∷ 126 ∷ []) ≡ 3 ∷ [])
+P6 =
+    (pool records : List ℕ)
+    → let thirty-nine = onBench false (126 ∷ 0 ∷ 0 ∷ 0 ∷ 0 ∷ 0 ∷ 191 ∷ []) pool records in
+    let forty = onBench false (126 ∷ 0 ∷ 0 ∷ 0 ∷ 0 ∷ 0 ∷ 126 ∷ []) pool records in
+    thirty-nine .number ≡ 0 → forty .number ≡ 0 → (kinds thirty-nine ≡ 5 ∷ []) × (kinds forty ≡ 3 ∷ [])
 
 -- a fill-in unit of zeros and a link status unit, each with its check octets and the flag behind it
 abbrev pub fisu : List ℕ
@@ -63,18 +69,16 @@ lssu = 0 ∷ 0 ∷ 1 ∷ 0 ∷ 6 ∷ 229 ∷ 126 ∷ []
 -- P12: equal fill-in units: over, dropped, dropped; equal status units: over, over, dropped.
 abbrev pub P12 : Type 0
 P12 =
-    (pool : List ℕ)
-    → (kinds 16 true pool (126 ∷ fisu ++ fisu ++ fisu) ≡ 0 ∷ 1 ∷ 1 ∷ []) × (kinds 16 true pool (126 ∷ lssu ++ lssu ++ lssu) ≡ 0 ∷ 0 ∷ 1 ∷ [])
+    (pool records : List ℕ)
+    → let fill-ins = onBench true (126 ∷ fisu ++ fisu ++ fisu) pool records in
+    let statuses = onBench true (126 ∷ lssu ++ lssu ++ lssu) pool records in
+    fill-ins .number ≡ 0 → statuses .number ≡ 0 → (kinds fill-ins ≡ 0 ∷ 1 ∷ 1 ∷ []) × (kinds statuses ≡ 0 ∷ 0 ∷ 1 ∷ [])
 
--- P13: fill-in lost, slot freed, same again twice: lost, over, dropped.
-abbrev pub fullBoard : List ℕ → Board
-fullBoard pool = boardOf (started 1 true) pool (0 ∷ 5 ∷ [])
-
-abbrev pub freed : List ℕ → Board → Board
-freed pool b = record { receiver = b .receiver; office = office (b .office .desk) pool (32768 ∷ 0 ∷ []); watch = b .watch }
-
+-- P13: fill-in lost, slot freed, same again twice: lost, over, dropped. The board has one slot, which holds a unit of five octets.
 abbrev pub P13 : Type 0
 P13 =
-    (pool pool′ : List ℕ)
-    → (map kind (lineHappenings (bench 1 true) (fullBoard pool) (126 ∷ fisu)) ≡ 2 ∷ [])
-    × (map kind (lineHappenings (bench 1 true) (freed pool′ (boardAfter (bench 1 true) (fullBoard pool) (126 ∷ fisu))) (fisu ++ fisu)) ≡ 0 ∷ 1 ∷ [])
+    (pool records records′ : List ℕ)
+    → let lost = receiveAnswer (started 1 true) (126 ∷ fisu) pool (0 ∷ 5 ∷ []) records in
+    let freed = handAnswer (lost .link) (lost .pool) (lost .descriptors) 0 in
+    let again = receiveAnswer (freed .link) (fisu ++ fisu) (freed .pool) (freed .descriptors) records′ in
+    lost .number ≡ 0 → freed .number ≡ 0 → again .number ≡ 0 → (kinds lost ≡ 2 ∷ []) × (kinds again ≡ 0 ∷ 1 ∷ [])
