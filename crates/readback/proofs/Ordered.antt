@@ -14,12 +14,8 @@ use borrow.Author.Tests.{eq-eqb, le-ltb, lt-leb}
 use Rattle.bits.specs.Octets.{bitsOf, octetOf, packed, wholeOctets}
 use Rattle.bits.specs.Format.{basic}
 use Rattle.bits.proofs.Digits.{octetOf-lt}
-use Rattle.framing.specs.declared.Verdict.{Verdict}
-use Rattle.framing.specs.declared.Verdict.the-variants.{Short, NotWhole, CheckWrong, Good}
 use Rattle.framing.specs.Delimitation.{closed, abort, long}
 use Rattle.framing.specs.Verdict.{verdictOf}
-use Rattle.filter.specs.declared.Fate.{Fate}
-use Rattle.filter.specs.declared.Fate.the-variants.{HandedOver, Dropped, Lost}
 use Rattle.filter.specs.Memory.{settled}
 use Rattle.monitor.specs.declared.Mode.{Mode}
 use Rattle.monitor.specs.declared.Mode.the-variants.{Off, Failure, Alignment, Idle}
@@ -30,7 +26,8 @@ use Rattle.board.specs.Order.{noOnes, zeroPast, inRange, lineOut, counterOut, c
 use Rattle.board.proofs.Orders.{when-open, InOrder, in-order}
 use Rattle.board.proofs.Past.{none-above, part-above, past-goes, past-ends}
 use Rattle.units.specs.Marks.{Mark, found, octetEnd}
-use Rattle.units.specs.Desk.{Office, Served, byFate, byVerdict, pick, pickℕ, isFree, goodUnit, erroredUnit, closedUnit, octetServed, serves, nextOffice, officeAfter}
+use Rattle.units.specs.Desk.{Office, Served, pickℕ, isFree, goodUnit, erroredUnit, closedUnit, octetServed, serves, nextOffice, officeAfter}
+use Rattle.units.proofs.Desks.{each-fate, each-pick, each-verdict}
 use Rattle.reception.specs.Line.{limitsOf}
 
 -- ---- from facts to tests
@@ -108,21 +105,6 @@ left o = o .desk .counting .left
 
 abbrev Left : ℕ → Served → Type 0
 Left n x = left (x .office) ≡ n
-
-each-fate : (P : Served → Type 0) (f : Fate) {a b c : Served} → P a → P b → P c → P (byFate f a b c)
-each-fate P HandedOver x y z = x
-each-fate P Dropped x y z = y
-each-fate P Lost x y z = z
-
-each-pick : (P : Served → Type 0) (t : Bool) {a b : Served} → P a → P b → P (pick t a b)
-each-pick P true x y = x
-each-pick P false x y = y
-
-each-verdict : (P : Served → Type 0) (v : Verdict) {a b c d : Served} → P a → P b → P c → P d → P (byVerdict v a b c d)
-each-verdict P Short x y z w = x
-each-verdict P NotWhole x y z w = y
-each-verdict P CheckWrong x y z w = z
-each-verdict P Good x y z w = w
 
 module _ (s : Settings) (o : Office) where
   left-good : (os : List ℕ) → Left (left o) (goodUnit s o os)

@@ -34,16 +34,16 @@ use Rattle.units.specs.Promises.{FitKept, OneFound, OneAtMost, FirstFive
 use Rattle.units.proofs.FirstFive.{five-length}
 
 -- ---- what holds of each way holds of the way taken
-each-fate : (P : Served → Type 0) (f : Fate) {a b c : Served} → P a → P b → P c → P (byFate f a b c)
+pub each-fate : (P : Served → Type 0) (f : Fate) {a b c : Served} → P a → P b → P c → P (byFate f a b c)
 each-fate P HandedOver x y z = x
 each-fate P Dropped x y z = y
 each-fate P Lost x y z = z
 
-each-pick : (P : Served → Type 0) (t : Bool) {a b : Served} → P a → P b → P (pick t a b)
+pub each-pick : (P : Served → Type 0) (t : Bool) {a b : Served} → P a → P b → P (pick t a b)
 each-pick P true x y = x
 each-pick P false x y = y
 
-each-verdict : (P : Served → Type 0) (v : Verdict) {a b c d : Served} → P a → P b → P c → P d → P (byVerdict v a b c d)
+pub each-verdict : (P : Served → Type 0) (v : Verdict) {a b c d : Served} → P a → P b → P c → P d → P (byVerdict v a b c d)
 each-verdict P Short x y z w = x
 each-verdict P NotWhole x y z w = y
 each-verdict P CheckWrong x y z w = z
