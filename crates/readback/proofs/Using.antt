@@ -15,7 +15,7 @@ use Rattle.board.specs.Link.{clearArea}
 use Rattle.board.specs.Order.{noOnes, zeroPast}
 use Rattle.board.proofs.Orders.{InOrder, Ranges, ranges}
 use Rattle.units.specs.Marks.{lineMarks}
-use Rattle.reception.specs.Line.{Board, boardAfter, lineHappenings}
+use Rattle.reception.specs.Line.{Board, boardAfter, lineHappenings, lineRecords}
 use Rattle.reception.specs.Writing.{holding, Ready, marksDone}
 use Rattle.reception.proofs.Octets.{ready-kept}
 use Rattle.link.specs.Refusals.{first, fitsMemory, readNumber, receiveNumber}
@@ -26,9 +26,9 @@ use Rattle.link.proofs.Kept.{open-number, opened}
 use Rattle.link.proofs.Receiving.{Receivable, receivable, limits, ready}
 use Rattle.readback.specs.Feeding.{Held, board, Feed, answer, fed, heldAfter}
 use Rattle.readback.specs.Feeding.{none as no-calls, more as one-call}
-use Rattle.readback.specs.Using.{InUse, none, more, OpenInUse, StaysInUse, StandsRead}
+use Rattle.readback.specs.Using.{InUse, none, more, OpenInUse, StaysInUse, AnyCutting, StandsRead}
 use Rattle.readback.proofs.Gathered.{Sound, line-held, line-sound, line-allowed}
-use Rattle.readback.proofs.Feeding.{few-gathered}
+use Rattle.readback.proofs.Feeding.{few-gathered, fed-as-one}
 use Rattle.readback.proofs.Ordered.{count-out, orderly, in-range, packed-past, left-most}
 
 -- the memory of k slots
@@ -157,6 +157,15 @@ stays-in-use h [] u none = (no-calls, u)
 stays-in-use h (f ∷ fs) u (more few room rest) =
     let r = stays-in-use (fed h f) fs (still-used h f u few room) rest in
     (one-call (taken h f u few room) (r .0), r .1)
+
+-- so its board and records are those of the line, however it is cut
+pub any-cutting : AnyCutting
+any-cutting h fs gs u few few′ e =
+    let one = fed-as-one h fs (stays-in-use h fs u few .0) in
+    let other = fed-as-one h gs (stays-in-use h gs u few′ .0) in (
+      one .0 ∙ ap (boardAfter (h .link .settings) (board h)) e ∙ sym (other .0),
+      one .1 ∙ ap (lineRecords (h .link .settings) (board h)) e ∙ sym (other .1),
+    )
 
 -- ---- read
 module _ (h : Held) (slot : ℕ) (unit : List ℕ) (u : InUse h) (below : slot < h .link .settings .k)

@@ -10,7 +10,7 @@ use Rattle.board.specs.Order.{malformed}
 use Rattle.link.specs.Refusals.{fitsMemory, readNumber}
 use Rattle.link.specs.Calls.{openAnswer, readPart}
 use Rattle.transmission.specs.Transmission.{Sending, send, fill, linkAfter, Accepted}
-use Rattle.readback.specs.Feeding.{Held, Feed, heldAfter, Answered}
+use Rattle.readback.specs.Feeding.{Held, board, Feed, heldAfter, recordsFed, octetsFed, Answered}
 use Rattle.readback.specs.Reading.{Stands}
 use Rattle.readback.specs.Streams.{booked}
 
@@ -33,6 +33,12 @@ OpenInUse =
 -- A link in use answers 0 to every receive of such sizes, and stays in use.
 abbrev pub StaysInUse : Type 0
 StaysInUse = (h : Held) (fs : List Feed) → InUse h → AllSized fs → Answered h fs × InUse (heldAfter h fs)
+
+-- However a line is cut into such calls, it leaves the same board, lent memory included, and the same records in order.
+abbrev pub AnyCutting : Type 0
+AnyCutting =
+    (h : Held) (fs gs : List Feed) → InUse h → AllSized fs → AllSized gs → octetsFed fs ≡ octetsFed gs
+    → (board (heldAfter h fs) ≡ board (heldAfter h gs)) × (recordsFed h fs ≡ recordsFed h gs)
 
 -- What stands in a slot of a link in use is what read gives.
 abbrev pub StandsRead : Type 0
