@@ -5,3 +5,4 @@ pub mod Packing
 pub mod Gathering
 pub mod Whole
 pub mod Writing
+pub mod Typed

@@ -64,15 +64,6 @@ readFaults l pool descriptors slot =
     ∷ fault (ltb 2 (statusOf descriptors slot) || ltb 278 (lengthOf descriptors slot)) 13
     ∷ []
 
-abbrev pub receiveFaults : Link → List ℕ → List ℕ → List ℕ → List ℕ → List Fault
-receiveFaults l octets pool descriptors records =
-    fault (malformed l) 1
-    ∷ fault (not (l .opened)) 2
-    ∷ fault (not (fitsMemory (l .settings .k) pool descriptors)) 5
-    ∷ fault (ltb 1024 (length octets)) 7
-    ∷ fault (ltb (length records) (48 * length octets)) 8
-    ∷ []
-
 unfoldable pub openNumber : Link → Settings → List ℕ → List ℕ → ℕ
 openNumber l s pool descriptors = first (openFaults l s pool descriptors)
 
@@ -81,6 +72,3 @@ commandNumber l command = first (commandFaults l command)
 
 unfoldable pub readNumber : Link → List ℕ → List ℕ → ℕ → ℕ
 readNumber l pool descriptors slot = first (readFaults l pool descriptors slot)
-
-unfoldable pub receiveNumber : Link → List ℕ → List ℕ → List ℕ → List ℕ → ℕ
-receiveNumber l octets pool descriptors records = first (receiveFaults l octets pool descriptors records)

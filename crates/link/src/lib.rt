@@ -3,7 +3,6 @@ use board::Link;
 
 pub mod booking;
 pub mod commands;
-pub mod line;
 pub mod slots;
 
 ghost use mathlib.Core.Path.{_≡_};

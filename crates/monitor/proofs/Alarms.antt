@@ -1,10 +1,10 @@
 -- Both monitors alarm exactly where the law says: at the first event since the start that ends a stretch which reaches the threshold.
-use mathlib.Core.Path.{_≡_, refl, sym, ap, _∙_}
+use mathlib.Core.Path.{_≡_, refl, sym, ap, subst, _∙_}
 use mathlib.Core.Logic.{_↔_, _⊎_, inl, inr, ⊎-elim}
 use mathlib.Core.Bool.{Bool, true, false}
 use mathlib.Core.List.{List, [], _∷_, _++_, append-assoc, append-nil}
 use Prim.Native.Nat.{ℕ, zero, suc, _+_, _-_, _≤_, _<_, _%_}
-use native.Mathlib.Nat.{add-suc, suc-add, add-zero, zero-add, zero-mod}
+use native.Mathlib.Nat.{zero-add, zero-mod}
 use native.Mathlib.Omega.{arith}
 use lib.Dec.{leb, eqb}
 use lib.ListN.{length, getD}
@@ -191,6 +191,10 @@ module _ (x : Which) (l : Limits) where
   follows-after (e ∷ g) h m f =
       rw append-assoc at (follows-after g (snoc h e) (step l m e .monitor) (follows-next x l h m e f))
 
+  -- the same event, in whatever way the list and its number are written
+  same-alarm : {h k : List Bool} {a b : ℕ} → h ≡ k → a ≡ b → AlarmAt x l h a → AlarmAt x l k b
+  same-alarm {h} {k} {a} {b} p q w = subst (λ (n : ℕ). AlarmAt x l k n) q (subst (λ (g : List Bool). AlarmAt x l g a) p w)
+
   -- the alarm comes at an event exactly if the law names that event
   pub alarm-exactly : (g h : List Bool) (m : Monitor) (n : ℕ) → Follows x l h m
       → (getD (alarms l m g) n Nothing ≡ alarm-of x) ↔ ((n < length g) × AlarmAt x l (h ++ g) (suc (length h + n)))
@@ -198,13 +202,16 @@ module _ (x : Which) (l : Limits) where
   alarm-exactly [] h m n f = (λ q. absurd (differ x q), λ w. absurd (omega (arith, w .0)))
   alarm-exactly (e ∷ g) h m zero f =
       let w = follows-alarm x l h m e f in
-      let b : suc (length h) ≤ length (snoc h e) = rw length-snoc (omega arith) in
-      let v = rw append-assoc at (first-grown (threshold x l) (rule x l) (snoc h e) g (suc (length h)) b) in
-      rw add-zero (λ q. (omega arith, v .0 (w .0 q)), λ k. w .1 (v .1 (k .1)))
+      let b : suc (length h) ≤ length (snoc h e) = omega (arith, length-snoc h e) in
+      let v = first-grown (threshold x l) (rule x l) (snoc h e) g (suc (length h)) b in
+      let p = append-assoc h (e ∷ []) g in
+      let z : suc (length h) ≡ suc (length h + 0) = omega arith in
+      (λ q. (omega arith, same-alarm p z (v .0 (w .0 q))), λ k. w .1 (v .1 (same-alarm (sym p) (sym z) (k .1))))
   alarm-exactly (e ∷ g) h m (suc n) f =
       let i = alarm-exactly g (snoc h e) (step l m e .monitor) n (follows-next x l h m e f) in
-      let w = rw (append-assoc, length-snoc, suc-add) at i in
-      rw add-suc (λ q. (omega (arith, w .0 q .0), w .0 q .1), λ k. w .1 (omega (arith, k .0), k .1))
+      let p = append-assoc h (e ∷ []) g in
+      let z : suc (length (snoc h e) + n) ≡ suc (length h + suc n) = omega (arith, length-snoc h e) in
+      (λ q. (omega (arith, i .0 q .0), same-alarm p z (i .0 q .1)), λ k. i .1 (omega (arith, k .0), same-alarm (sym p) (sym z) (k .1)))
 
   -- and no other alarm comes
   pub alarm-only : (g h : List Bool) (m : Monitor) (n : ℕ) → Follows x l h m

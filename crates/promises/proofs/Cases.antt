@@ -18,12 +18,12 @@ use Rattle.units.specs.Desk.{happenings, serves, octetServed, closedUnit, error
 use Rattle.reception.specs.Line.{boardAfter, lineHappenings, lineRecords}
 use Rattle.link.specs.Calls.{Outcome, outcome, obeyed, handAnswer}
 use Rattle.board.specs.declared.Link.{Link}
-use Rattle.link.specs.Receive.{ReceiveOutcome, boardOf, linkOf, received, receiveAnswer}
-use Rattle.link.specs.LinePromises.{written}
+use Rattle.input.specs.Receive.{ReceiveOutcome, boardOf, linkOf, received, receiveAnswer}
+use Rattle.input.specs.Promises.{written}
 use Rattle.link.proofs.Answers.{done}
 use Rattle.link.proofs.Kept.{hand-number}
-use Rattle.link.proofs.Receiving.{receivable}
-use Rattle.link.proofs.Cutting.{answered, wrote}
+use Rattle.input.proofs.Receiving.{receivable}
+use Rattle.input.proofs.Cutting.{answered, wrote}
 use Rattle.promises.specs.Cases.{started, P2, firsts, kinds, fisu, lssu, P6, P12, P13}
 
 p2-records : (pool : List ℕ) → lineRecords (started 16 false .settings) (boardOf (started 16 false) pool (emptyDescriptors 16)) (126 ∷ 0 ∷ 0 ∷ 0 ∷ 126 ∷ []) ≡ 5 ∷ 0 ∷ 3 ∷ 0 ∷ replicate 12 0

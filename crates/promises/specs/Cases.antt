@@ -9,8 +9,8 @@ use Rattle.board.specs.declared.Settings.{Settings}
 use Rattle.board.specs.declared.Link.{Link}
 use Rattle.board.specs.Rows.{rowOf}
 use Rattle.link.specs.Calls.{openedLink, obeyed, handAnswer}
-use Rattle.link.specs.Receive.{ReceiveOutcome, receiveAnswer}
-use Rattle.link.specs.LinePromises.{written}
+use Rattle.input.specs.Receive.{ReceiveOutcome, receiveAnswer}
+use Rattle.input.specs.Promises.{written}
 
 -- row 1 with k slots, a mask that keeps all bits, and the filter on or off
 abbrev pub bench : ℕ → Bool → Settings

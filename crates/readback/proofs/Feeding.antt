@@ -11,11 +11,11 @@ use Rattle.units.specs.Marks.{lineReceiver, lineMarks}
 use Rattle.units.specs.Desk.{officeAfter, happenings}
 use Rattle.reception.specs.Line.{Board, boardAfter, lineHappenings, lineRecords}
 use Rattle.reception.proofs.Cutting.{board-cut, records-cut}
-use Rattle.link.specs.Receive.{ReceiveOutcome, boardOf, received}
-use Rattle.link.specs.LinePromises.{written}
-use Rattle.link.proofs.Receiving.{Receivable, receivable}
-use Rattle.link.proofs.Cutting.{answered, board-back}
-use Rattle.link.proofs.Cutting.{wrote as wrote-line}
+use Rattle.input.specs.Receive.{ReceiveOutcome, boardOf, received}
+use Rattle.input.specs.Promises.{written}
+use Rattle.input.proofs.Receiving.{Receivable, receivable}
+use Rattle.input.proofs.Cutting.{answered, board-back}
+use Rattle.input.proofs.Cutting.{wrote as wrote-line}
 use Rattle.readback.specs.Feeding.{Held, board, Feed, answer, fed, wrote, heldAfter, recordsFed, octetsFed, none, more}
 use Rattle.readback.specs.Reading.{FedAsOne}
 use Rattle.readback.proofs.Gathered.{line-held}

@@ -19,8 +19,8 @@ use Rattle.reception.specs.Line.{Board, boardAfter, lineRecords}
 use Rattle.reception.specs.Writing.{holding, marksDone}
 use Rattle.reception.proofs.Octets.{ready-kept}
 use Rattle.reception.proofs.Cutting.{board-cut, records-cut}
-use Rattle.link.specs.Receive.{progressOf}
-use Rattle.link.proofs.Receiving.{Receivable, limits, ready}
+use Rattle.input.specs.Receive.{progressOf}
+use Rattle.input.proofs.Receiving.{Receivable, limits, ready}
 use Rattle.readback.specs.Feeding.{Held, board, Feed, heldAfter, recordsFed, octetsFed, Answered, none, more}
 use Rattle.readback.specs.Reading.{ReadBackFed}
 use Rattle.readback.specs.Shelf.{unitOctets}

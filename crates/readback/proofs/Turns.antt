@@ -27,9 +27,9 @@ use Rattle.units.proofs.Desks.{found-one}
 use Rattle.reception.specs.Line.{Board, limitsOf, boardAfter, lineHappenings, lineRecords}
 use Rattle.link.specs.Refusals.{pick, readNumber}
 use Rattle.link.specs.Calls.{Outcome, outcome, openedLink, handAnswer}
-use Rattle.link.specs.Receive.{ReceiveOutcome}
+use Rattle.input.specs.Receive.{ReceiveOutcome}
 use Rattle.link.proofs.Kept.{opened}
-use Rattle.link.proofs.Cutting.{answered}
+use Rattle.input.proofs.Cutting.{answered}
 use Rattle.readback.specs.Feeding.{Held, board, Feed, answer, fed, wrote}
 use Rattle.readback.specs.Shelf.{Shelf, shelfAfter, shelfRecords}
 use Rattle.readback.specs.Streams.{AllAllowed, closedOut}

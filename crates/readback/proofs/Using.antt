@@ -18,12 +18,13 @@ use Rattle.units.specs.Marks.{lineMarks}
 use Rattle.reception.specs.Line.{Board, boardAfter, lineHappenings, lineRecords}
 use Rattle.reception.specs.Writing.{holding, Ready, marksDone}
 use Rattle.reception.proofs.Octets.{ready-kept}
-use Rattle.link.specs.Refusals.{first, fitsMemory, readNumber, receiveNumber}
+use Rattle.link.specs.Refusals.{first, fitsMemory, readNumber}
+use Rattle.input.specs.Refusals.{receiveNumber}
 use Rattle.link.specs.Calls.{Outcome, openedLink, readPart}
-use Rattle.link.specs.Receive.{ReceiveOutcome, progressOf, linkOf, received, receiveAnswer}
+use Rattle.input.specs.Receive.{ReceiveOutcome, progressOf, linkOf, received, receiveAnswer}
 use Rattle.link.proofs.Answers.{done, openable}
 use Rattle.link.proofs.Kept.{open-number, opened}
-use Rattle.link.proofs.Receiving.{Receivable, receivable, limits, ready}
+use Rattle.input.proofs.Receiving.{Receivable, receivable, limits, ready}
 use Rattle.readback.specs.Feeding.{Held, board, Feed, answer, fed, heldAfter}
 use Rattle.readback.specs.Feeding.{none as no-calls, more as one-call}
 use Rattle.readback.specs.Using.{InUse, none, more, OpenInUse, StaysInUse, AnyCutting, StandsRead}

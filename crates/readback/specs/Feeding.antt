@@ -5,8 +5,8 @@ use mathlib.Core.List.{List, [], _∷_, _++_}
 use Rattle.bits.specs.Machine.{run, outs}
 use Rattle.board.specs.declared.Link.{Link}
 use Rattle.reception.specs.Line.{Board}
-use Rattle.link.specs.Receive.{ReceiveOutcome, boardOf, receiveAnswer}
-use Rattle.link.specs.LinePromises.{written}
+use Rattle.input.specs.Receive.{ReceiveOutcome, boardOf, receiveAnswer}
+use Rattle.input.specs.Promises.{written}
 
 -- a link with the memory lent to it
 pub record Held : Type 0 where

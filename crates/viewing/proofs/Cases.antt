@@ -14,8 +14,9 @@ use Rattle.units.specs.Desk.{erroredUnit, closedUnit, octetServed, serves, offi
 use Rattle.units.specs.Marks.{lineReceiver, lineMarks}
 use Rattle.reception.specs.Line.{lineHappenings, boardAfter, lineRecords}
 use Rattle.link.specs.Calls.{openAnswer, obeyed, commandAnswer, handAnswer}
-use Rattle.link.specs.Receive.{receiveAnswer}
-use Rattle.link.specs.Refusals.{first, fitsMemory, openNumber, commandNumber, readNumber, receiveNumber}
+use Rattle.input.specs.Receive.{receiveAnswer}
+use Rattle.link.specs.Refusals.{first, fitsMemory, openNumber, commandNumber, readNumber}
+use Rattle.input.specs.Refusals.{receiveNumber}
 use Rattle.viewing.specs.View.{bookedOn, handedFrom, fed, allWritten}
 use Rattle.viewing.specs.Promises.{P2}
 

@@ -11,7 +11,7 @@ use Rattle.board.specs.declared.Link.{Link}
 use Rattle.board.specs.Link.{newLink}
 use Rattle.link.specs.declared.Answer.{Answer}
 use Rattle.link.specs.Calls.{Outcome, openAnswer, commandAnswer, handAnswer}
-use Rattle.link.specs.Receive.{ReceiveOutcome, receiveAnswer}
+use Rattle.input.specs.Receive.{ReceiveOutcome, receiveAnswer}
 use Rattle.viewing.specs.View.{Held, rowOne, bookedOn, handedBack, handedFrom, filledBack, fed, passed, allPassed}
 
 -- opened, then the failure monitor started

@@ -10,7 +10,7 @@ use Rattle.board.specs.declared.Link.{Link}
 use Rattle.board.specs.Link.{newLink}
 use Rattle.board.specs.Rows.{rowOf}
 use Rattle.link.specs.Calls.{openAnswer, commandAnswer, handAnswer}
-use Rattle.link.specs.Receive.{ReceiveOutcome, receiveAnswer}
+use Rattle.input.specs.Receive.{ReceiveOutcome, receiveAnswer}
 
 -- the link and the memory lent to it
 pub record Held : Type 0 where

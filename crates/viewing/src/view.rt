@@ -2,10 +2,9 @@
 use board::Link;
 use board::Settings;
 use board::rows;
+use input::Received;
 use link::booking;
 use link::commands;
-use link::line;
-use link::line::Received;
 use link::slots;
 ghost use mathlib.Core.Path.{_≡_};
 ghost use Prim.Native.Nat.{_*_, _≤_};
@@ -67,7 +66,7 @@ pub fn feed(
     ensures { λ r. ⌜ record { number = r .number; link = r .link; count = r .count; pool = now (pool .exit); descriptors = now (descriptors .exit); records = now (records .exit) } ≡ fed link octet (now (pool .entry)) (now (descriptors .entry)) (now (records .entry)) ⌝ }
 {
     let octets = [octet];
-    let got = line::receive(link, &octets, &mut *pool, &mut *descriptors, records);
+    let got = input::receive(link, &octets, &mut *pool, &mut *descriptors, records);
     let l = hand_back_filled(got.link, pool, descriptors);
     Received {
         number: got.number,

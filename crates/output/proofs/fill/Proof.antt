@@ -7,7 +7,7 @@ use borrow.Author.Tests.{not-true, not-false}
 use Rattle.sending.specs.declared.Tx.{Tx}
 use Rattle.sending.specs.Stuffing.{flag}
 use Rattle.sending.specs.Packing.{Puts, Ready, Room}
-use Rattle.link.proofs.Typed.{array-of-octets}
+use Rattle.bits.proofs.Typed.{array-of-octets}
 use Rattle.output.specs.Output.{sender, unitOut}
 use Rattle.output.proofs.Outputs.{fill-number, fillable, ready, unit-room, flag-room, fill-content, fill-refused, flag-done, fill-done}
 use borrow.Author.Needs.{needs}

@@ -7,7 +7,7 @@ wrapping-add-u16-requires : tie.Need-wrapping-add-u16-requires
 wrapping-add-u16-requires c κs = search needs
 
 returns : tie.Need-returns
-returns c = cc
+returns c = λ i. record { good = c .before .args .c .good; over = c .before .args .c .over; dropped = c .before .args .c .dropped; lost = c .wrapping-add-u16 .ensures i }
 
 pub count-lost-spec : {M : Type 1} → statement M
 count-lost-spec = tie.close (tie.spec wrapping-add-u16-requires returns)

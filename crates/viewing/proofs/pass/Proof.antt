@@ -1,6 +1,6 @@
 -- `viewing::pass` meets its contract: the octet is fed with a clear record area.
 use mathlib.Core.Path.{ap}
-use Rattle.link.specs.Receive.{ReceiveOutcome}
+use Rattle.input.specs.Receive.{ReceiveOutcome}
 use Rattle.viewing.specs.View.{Held}
 use borrow.Author.Needs.{needs}
 use Rattle.viewing.proofs.pass.Statement.{statement}

@@ -1,4 +1,5 @@
 -- `board::Link::new` meets its contract: each part is the new link's.
+use mathlib.Core.Bool.{false}
 use borrow.Author.Needs.{needs}
 use Rattle.board.proofs.Link.new.Statement.{statement}
 use Rattle.board.proofs.Link.new.Tie as tie
@@ -19,7 +20,22 @@ new-transmitter-requires : tie.Need-new-transmitter-requires
 new-transmitter-requires c κs = search needs
 
 returns : tie.Need-returns
-returns c = cc
+returns c =
+    let e = c .before in
+    let o = e .before in
+    let l = o .before in
+    λ i. record {
+      opened = false;
+      settings = l .before .no-settings .ensures i;
+      line = l .new-line .ensures i;
+      counting = record { on = false; left = 0 };
+      monitor = o .off .ensures i;
+      memory = e .empty .ensures i;
+      slots = record { next = 0 };
+      counts = record { good = 0; over = 0; dropped = 0; lost = 0 };
+      events = 0;
+      transmitter = c .new-transmitter .ensures i;
+    }
 
 pub new-spec : {M : Type 1} → statement M
 new-spec =

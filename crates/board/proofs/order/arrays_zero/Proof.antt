@@ -1,4 +1,5 @@
 -- `board::order::arrays_zero` meets its contract: each array's test.
+use mathlib.Core.Bool.{_&&_}
 use borrow.Author.Needs.{needs}
 use Rattle.board.proofs.order.arrays_zero.Statement.{statement}
 use Rattle.board.proofs.order.arrays_zero.Tie as tie
@@ -28,7 +29,10 @@ no-octet-requires-4 : tie.Need-no-octet-requires-4
 no-octet-requires-4 c κs = search needs
 
 returns : tie.Need-returns
-returns c = cc
+returns c =
+    let h = c .before .before in
+    let a = h .before .before in
+    λ i. ((a .before .before .no-octet .ensures i && a .no-octet2 .ensures i) && h .no-octet3 .ensures i) && c .no-octet4 .ensures i
 
 pub arrays-zero-spec : {M : Type 1} → statement M
 arrays-zero-spec =

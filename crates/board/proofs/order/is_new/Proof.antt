@@ -1,5 +1,7 @@
 -- `board::order::is_new` meets its contract: the tests are the definition's.
+use mathlib.Core.Bool.{not, _&&_}
 use borrow.Author.Needs.{needs}
+use lib.Dec.{eqb}
 use Rattle.board.specs.Order.{isNew}
 use Rattle.board.proofs.order.is_new.Statement.{statement}
 use Rattle.board.proofs.order.is_new.Tie as tie
@@ -17,7 +19,12 @@ returns : tie.Need-returns
 unfolding isNew
 returns c =
     let d = c .before .before .before .before .before .before .before .before .before in
-    rw (d .is-off .ensures, d .before .arrays-zero .ensures, d .before .before .numbers-zero .ensures)
+    let n = d .before .before in
+    let l = n .before .before .before .before .before .before .before .before .before .args .link in
+    λ i.
+    ((((((((((n .numbers-zero .ensures i && d .before .arrays-zero .ensures i) && eqb (l .line .state .run) 7) && l .line .state .hunting)
+    && d .is-off .ensures i) && not (l .settings .filter)) && not (l .settings .itu)) && not (l .settings .orn)) && not (l .counting .on))
+    && not (l .memory .alike)) && not (l .transmitter .flagged)) && not (l .transmitter .sent)
 
 pub is-new-spec : {M : Type 1} → statement M
 is-new-spec =

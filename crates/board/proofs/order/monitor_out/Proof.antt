@@ -1,6 +1,7 @@
 -- `board::order::monitor_out` meets its contract.
-use mathlib.Core.Path.{ap}
+use mathlib.Core.Bool.{_||_}
 use borrow.Author.Needs.{needs}
+use lib.Dec.{leb}
 use Rattle.board.specs.Order.{monitorOut}
 use Rattle.board.proofs.order.monitor_out.Statement.{statement}
 use Rattle.board.proofs.order.monitor_out.Tie as tie
@@ -10,7 +11,10 @@ count-out-requires c κs = search needs
 
 returns : tie.Need-returns
 unfolding monitorOut
-returns c = cc
+returns c =
+    let r = c .before .before in
+    let a = r .before .args in
+    λ i. leb (a .s .d) (a .m .number) || r .count-out .ensures i
 
 pub monitor-out-spec : {M : Type 1} → statement M
 monitor-out-spec = tie.close (tie.spec count-out-requires returns)

@@ -1,5 +1,8 @@
 -- `board::order::numbers_zero` meets its contract: the words are the link's numbers.
+use mathlib.Core.Path.{_∙_}
+use mathlib.Core.List.{[], _∷_}
 use borrow.Author.Needs.{needs}
+use Rattle.memory.specs.Lent.{zeros}
 use Rattle.board.proofs.order.numbers_zero.Statement.{statement}
 use Rattle.board.proofs.order.numbers_zero.Tie as tie
 
@@ -16,7 +19,15 @@ no-word-requires : tie.Need-no-word-requires
 no-word-requires c κs = search needs
 
 returns : tie.Need-returns
-returns c = cc
+returns c =
+    let w = c .before .before in
+    let l = w .before .before .before .before .args .link in
+    c .no-word .ensures
+    ∙ λ i.
+    zeros
+    (l .settings .k ∷ l .settings .m ∷ l .settings .n ∷ l .settings .t ∷ l .settings .d ∷ l .settings .a ∷ l .line .state .bits
+    ∷ l .counting .left ∷ l .monitor .count ∷ l .monitor .number ∷ l .memory .length ∷ l .slots .next ∷ l .counts .good ∷ l .counts .over
+    ∷ l .counts .dropped ∷ l .counts .lost ∷ l .events ∷ w .before .wide .ensures i ∷ w .wide2 .ensures i ∷ [])
 
 pub numbers-zero-spec : {M : Type 1} → statement M
 numbers-zero-spec =

@@ -1,5 +1,7 @@
 -- `board::order::out_of_order` meets its contract: each part's test is the definition's.
+use mathlib.Core.Bool.{not, _||_}
 use borrow.Author.Needs.{needs}
+use lib.Dec.{leb}
 use Rattle.board.specs.Order.{outOfOrder}
 use Rattle.board.proofs.order.out_of_order.Statement.{statement}
 use Rattle.board.proofs.order.out_of_order.Tie as tie
@@ -27,7 +29,17 @@ transmitter-out-requires c κs = search needs
 
 returns : tie.Need-returns
 unfolding outOfOrder
-returns c = cc
+returns c =
+    let t = c .before .before in
+    let m = t .before in
+    let n = m .before in
+    let l = n .before in
+    let r = l .before in
+    let z = r .before in
+    let k = z .before .before .before .before .before .args .link in
+    λ i.
+    (((((not (z .zero-past .ensures i) || not (r .in-range .ensures i)) || l .line-out .ensures i) || n .counter-out .ensures i)
+    || m .monitor-out .ensures i) || leb (k .settings .k) (k .slots .next)) || t .transmitter-out .ensures i
 
 pub out-of-order-spec : {M : Type 1} → statement M
 out-of-order-spec =

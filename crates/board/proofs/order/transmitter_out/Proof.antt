@@ -1,5 +1,7 @@
 -- `board::order::transmitter_out` meets its contract.
+use mathlib.Core.Bool.{not, _&&_, _||_}
 use borrow.Author.Needs.{needs}
+use lib.Dec.{ltb}
 use Rattle.board.specs.Order.{transmitterOut}
 use Rattle.board.proofs.order.transmitter_out.Statement.{statement}
 use Rattle.board.proofs.order.transmitter_out.Tie as tie
@@ -15,7 +17,10 @@ zero-past-requires c κs = search needs
 
 returns : tie.Need-returns
 unfolding transmitterOut
-returns c = cc
+returns c =
+    let z = c .before .before .before in
+    let t = z .before .before .before .args .t in
+    λ i. (ltb 7 (t .count) || (not (t .flagged) && ltb 0 (t .count))) || not (z .zero-past .ensures i)
 
 pub transmitter-out-spec : {M : Type 1} → statement M
 transmitter-out-spec =

@@ -19,7 +19,9 @@ same-length-2 : tie.Need-same-length-2
 same-length-2 c = search needs
 
 returns : tie.Need-returns
-returns c = cc
+returns c =
+    let w = c .before .before .before in
+    λ i. record { link = c .new .ensures i; octets = w .before .before .before .before .wipe-octets .ensures i; words = w .wipe-words .ensures i }
 
 pub wipe-spec : {M : Type 1} → statement M
 wipe-spec =

@@ -7,9 +7,10 @@ use lib.ListN.{take}
 use Rattle.board.specs.declared.Settings.{Settings}
 use Rattle.board.specs.declared.Link.{Link}
 use Rattle.units.specs.Promises.{Sums}
-use Rattle.link.specs.Refusals.{rising, receiveFaults, openNumber, receiveNumber}
+use Rattle.link.specs.Refusals.{rising, openNumber}
+use Rattle.input.specs.Refusals.{receiveFaults, receiveNumber}
 use Rattle.link.specs.Calls.{openAnswer, commandAnswer}
-use Rattle.link.specs.Receive.{ReceiveOutcome, receiveAnswer}
+use Rattle.input.specs.Receive.{ReceiveOutcome, receiveAnswer}
 
 -- D1.2: the faults are asked in rising number, and a refused call changes nothing.
 abbrev pub ReceiveRises : Type 0

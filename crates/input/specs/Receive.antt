@@ -10,7 +10,8 @@ use Rattle.board.specs.declared.Gathering.{Gathering}
 use Rattle.units.specs.Desk.{office}
 use Rattle.reception.specs.declared.Progress.{Progress}
 use Rattle.reception.specs.Line.{Board, boardAfter, lineHappenings, lineRecords}
-use Rattle.link.specs.Refusals.{pick, receiveNumber}
+use Rattle.link.specs.Refusals.{pick}
+use Rattle.input.specs.Refusals.{receiveNumber}
 
 pub record ReceiveOutcome : Type 0 where
   pub number : ℕ

@@ -5,45 +5,32 @@ use native.Mathlib.Omega.{arith}
 use lib.ListN.{length}
 use Rattle.reception.specs.declared.Progress.{Progress}
 use Rattle.reception.specs.Writing.{holding, Ready, LineTaken}
-use Rattle.link.proofs.Typed.{array-of-octets}
-use Rattle.link.proofs.Receiving.{receivable, limits, ready, held, receive-refused, receive-done}
+use Rattle.bits.proofs.Typed.{array-of-octets}
+use Rattle.input.proofs.Receiving.{receivable, limits, ready, held, receive-refused, receive-done}
 use borrow.Author.Needs.{needs}
-use Rattle.link.proofs.line.receive.Statement.{statement}
-use Rattle.link.proofs.line.receive.Tie as tie
-use Rattle.link.proofs.line.receive.Reads as reads
-use Rattle.link.proofs.line.receive.Lts as lts
-use Rattle.link.proofs.line.link_after.Reads as link-after-reads
-use Rattle.link.proofs.line.progress_of.Reads as progress-of-reads
-use Rattle.link.proofs.line.receive_number.Reads as receive-number-reads
-use Rattle.reception.proofs.take_line.Reads as take-line-reads
+use Rattle.input.proofs.receive.Statement.{statement}
+use Rattle.input.proofs.receive.Tie as tie
 
--- src/line.rt:85:9
 receive-number-requires : tie.Need-receive-number-requires
 receive-number-requires c κs = search needs
 
--- src/line.rt:87:9
 same-length : tie.Need-same-length
 same-length c = search needs
 
--- src/line.rt:87:9
 same-length-2 : tie.Need-same-length-2
 same-length-2 c = search needs
 
--- src/line.rt:87:9
 same-length-3 : tie.Need-same-length-3
 same-length-3 c = search needs
 
--- src/line.rt:87:9
 returns : tie.Need-returns
 returns c =
     let a = c .before .before .before .before .before .before .before .before .before .args in
     receive-refused (a .link) (a .octets .now) (a .pool .now) (a .descriptors .now) (a .records .now) (c .before .receive-number .result) (c .before .receive-number .ensures) (c .if1 .taken)
 
--- src/line.rt:93:9
 progress-of-requires : tie.Need-progress-of-requires
 progress-of-requires c κs = search needs
 
--- src/line.rt:97:9
 take-line-requires : tie.Need-take-line-requires
 take-line-requires c κs =
     let s = c .before .before .before .before .before .before .before .before .before .before .before .before .before .before .before .before .before in
@@ -61,23 +48,18 @@ take-line-requires c κs =
       (held (a .link) (a .octets .now) (a .pool .now) (a .descriptors .now) (a .records .now) ok typed, subst (λ (x : Progress). 16 * x .count + 48 * length (a .octets .now) ≤ length (a .records .now)) (sym p) (omega (arith, ok .room)), ok .few),
     )
 
--- src/line.rt:101:9
 link-after-requires : tie.Need-link-after-requires
 link-after-requires c κs = search needs
 
--- src/line.rt:82:1
 same-length-4 : tie.Need-same-length-4
 same-length-4 c = search needs
 
--- src/line.rt:82:1
 same-length-5 : tie.Need-same-length-5
 same-length-5 c = search needs
 
--- src/line.rt:82:1
 same-length-6 : tie.Need-same-length-6
 same-length-6 c = search needs
 
--- src/line.rt:82:1
 returns-2 : tie.Need-returns-2
 returns-2 c =
     let a = c .before .before .before .before .before .before .before .before .before .before .before .before .before .before .before .before .before .before .before .before .before .before .before .before .before .before .before .args in

@@ -26,10 +26,11 @@ use Rattle.reception.specs.declared.Progress.{Progress}
 use Rattle.reception.specs.declared.Passed.{Passed}
 use Rattle.reception.specs.Line.{limitsOf, boardAfter, lineHappenings, lineRecords}
 use Rattle.reception.specs.Writing.{Written, holding, marksDone, Ready, LineTaken}
-use Rattle.link.specs.Refusals.{fitsMemory, receiveNumber}
-use Rattle.link.specs.Receive.{ReceiveOutcome, progressOf, boardOf, linkAfter, received, receiveAnswer}
+use Rattle.link.specs.Refusals.{fitsMemory}
+use Rattle.input.specs.Refusals.{receiveNumber}
+use Rattle.input.specs.Receive.{ReceiveOutcome, progressOf, boardOf, linkAfter, received, receiveAnswer}
 use Rattle.link.proofs.Faults.{none}
 use Rattle.link.proofs.Answers.{done, refused}
 
 -- room for 48 octets each, with no product
 pub room-for : (room octets : ℕ) → ltb (room / 48) octets ≡ ltb room (48 * octets)

@@ -1,45 +1,33 @@
 -- `link::line::receive_number` meets its contract: the faults are asked in rising number.
 use lib.ListN.{length}
-use Rattle.link.specs.Refusals.{first, receiveNumber}
-use Rattle.link.proofs.Receiving.{room-for}
+use Rattle.link.specs.Refusals.{first}
+use Rattle.input.specs.Refusals.{receiveNumber}
+use Rattle.input.proofs.Receiving.{room-for}
 use borrow.Author.Needs.{needs}
-use Rattle.link.proofs.line.receive_number.Statement.{statement}
-use Rattle.link.proofs.line.receive_number.Tie as tie
-use Rattle.link.proofs.line.receive_number.Reads as reads
-use Rattle.link.proofs.line.receive_number.Lts as lts
-use Rattle.board.proofs.order.is_malformed.Reads as is-malformed-reads
-use Rattle.link.proofs.booking.fits_memory.Reads as fits-memory-reads
-use Rattle.link.proofs.refuse.Reads as refuse-reads
+use Rattle.input.proofs.receive_number.Statement.{statement}
+use Rattle.input.proofs.receive_number.Tie as tie
 
--- src/line.rt:24:9
 is-malformed-requires : tie.Need-is-malformed-requires
 is-malformed-requires c κs = search needs
 
--- src/line.rt:25:9
 fits-memory-requires : tie.Need-fits-memory-requires
 fits-memory-requires c κs = search needs
 
--- src/line.rt:28:9
 refuse-requires : tie.Need-refuse-requires
 refuse-requires c κs = search needs
 
--- src/line.rt:29:9
 refuse-requires-2 : tie.Need-refuse-requires-2
 refuse-requires-2 c κs = search needs
 
--- src/line.rt:30:9
 refuse-requires-3 : tie.Need-refuse-requires-3
 refuse-requires-3 c κs = search needs
 
--- src/line.rt:31:9
 refuse-requires-4 : tie.Need-refuse-requires-4
 refuse-requires-4 c κs = search needs
 
--- src/line.rt:32:5
 refuse-requires-5 : tie.Need-refuse-requires-5
 refuse-requires-5 c κs = search needs
 
--- src/line.rt:21:1
 returns : tie.Need-returns
 unfolding receiveNumber first
 returns c =

@@ -20,13 +20,14 @@ use Rattle.units.specs.Desk.{happenings}
 use Rattle.units.specs.Promises.{Sums}
 use Rattle.reception.specs.Line.{Board, boardAfter, lineHappenings, lineRecords}
 use Rattle.reception.proofs.Cutting.{board-cut, records-cut, sixteen-each, three-each, sum-over-line}
-use Rattle.link.specs.Refusals.{pick, rising, receiveFaults, openNumber, commandNumber, receiveNumber}
+use Rattle.link.specs.Refusals.{pick, rising, openNumber, commandNumber}
+use Rattle.input.specs.Refusals.{receiveFaults, receiveNumber}
 use Rattle.link.specs.Calls.{Outcome, openedLink, openAnswer, obeyed, commandAnswer}
 use Rattle.link.specs.declared.Answer.{Answer}
-use Rattle.link.specs.Receive.{ReceiveOutcome, boardOf, linkOf, received, receiveAnswer}
-use Rattle.link.specs.LinePromises.{ReceiveRises, RefusedReceive, written, LineCut, SumAtOpen, SumKeptByReceive, SumKeptByCommand, NoOctets}
+use Rattle.input.specs.Receive.{ReceiveOutcome, boardOf, linkOf, received, receiveAnswer}
+use Rattle.input.specs.Promises.{ReceiveRises, RefusedReceive, written, LineCut, SumAtOpen, SumKeptByReceive, SumKeptByCommand, NoOctets}
 use Rattle.link.proofs.Answers.{done, refused}
-use Rattle.link.proofs.Receiving.{Receivable, receivable}
+use Rattle.input.proofs.Receiving.{Receivable, receivable}
 
 pub receive-rises : ReceiveRises
 unfolding rising

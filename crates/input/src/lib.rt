@@ -1,5 +1,4 @@
-// Line octets: receive.
-use crate::booking;
+// Input: receive, the call that takes line octets in.
 use board::Gathering;
 use board::Link;
 use board::order;
@@ -7,8 +6,8 @@ use reception::Progress;
 use records::Watch;
 use units::Desk;
 ghost use mathlib.Core.Path.{_≡_};
-ghost use Rattle.link.specs.Refusals.{receiveNumber};
-ghost use Rattle.link.specs.Receive.{progressOf, linkAfter, receiveAnswer};
+ghost use Rattle.input.specs.Refusals.{receiveNumber};
+ghost use Rattle.input.specs.Receive.{progressOf, linkAfter, receiveAnswer};
 
 // The number, the link, and how many records were written.
 pub struct Received {
@@ -22,14 +21,14 @@ fn receive_number(link: Link, octets: &[u8], pool: &[u8], descriptors: &[u16], r
     ensures { λ r. ⌜ r ≡ receiveNumber link (now (octets .entry)) (now (pool .entry)) (now (descriptors .entry)) (now (records .entry)) ⌝ }
 {
     let malformed = order::is_malformed(link);
-    let fits = booking::fits_memory(link.settings.k, pool, descriptors);
+    let fits = link::booking::fits_memory(link.settings.k, pool, descriptors);
     // 48 octets for each line octet, asked without a product that could overflow
     let short = records.len() / 48 < octets.len();
-    let eight = crate::refuse(short, 8, 0);
-    let seven = crate::refuse(1024 < octets.len(), 7, eight);
-    let five = crate::refuse(!fits, 5, seven);
-    let two = crate::refuse(!link.opened, 2, five);
-    crate::refuse(malformed, 1, two)
+    let eight = link::refuse(short, 8, 0);
+    let seven = link::refuse(1024 < octets.len(), 7, eight);
+    let five = link::refuse(!fits, 5, seven);
+    let two = link::refuse(!link.opened, 2, five);
+    link::refuse(malformed, 1, two)
 }
 
 // What line octets work on, with no record written yet.

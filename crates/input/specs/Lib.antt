@@ -1,0 +1,4 @@
+-- Receive.
+pub mod Refusals
+pub mod Receive
+pub mod Promises
