@@ -4,8 +4,6 @@ use board::Transmitter;
 use board::order;
 use sending::Tx;
 ghost use mathlib.Core.Path.{_≡_};
-ghost use mathlib.Core.Bool.{Bool};
-ghost use Prim.Native.Nat.{ℕ};
 ghost use Rattle.sending.specs.Packing.{Puts, Ready, Room};
 ghost use Rattle.output.specs.Refusals.{sendNumber, sharedNumber};
 ghost use Rattle.output.specs.Output.{sender, unitOut, linkSent, sendAnswer, fillAnswer};
@@ -17,7 +15,7 @@ pub struct Sent {
     pub count: usize,
 }
 
-// The number that fill answers, and send where its content has no fault; else what the faults after them give.
+// The number of the faults that send and fill share, or what the faults after them give.
 fn shared_number(l: Link, output: &[u8], rest: u8) -> u8
     ensures { λ r. ⌜ r ≡ sharedNumber l (now (output .entry)) rest ⌝ }
 {
