@@ -12,3 +12,4 @@ pub mod Using
 pub mod Sends
 pub mod Turns
 pub mod ReadBack
+pub mod Cases

@@ -3,17 +3,19 @@ use Prim.Native.Nat.{ℕ, _+_, _*_, _≤_, _<_}
 use mathlib.Core.Path.{_≡_}
 use mathlib.Core.Bool.{Bool, true, false}
 use mathlib.Core.List.{List, [], _∷_, _++_}
-use lib.ListN.{length, take, drop}
+use lib.ListN.{length, take, drop, replicate}
 use Rattle.framing.specs.Delimitation.{flagged, after}
 use Rattle.fcs.specs.Check.{checkOctets}
 use Rattle.sending.specs.Stuffing.{unitLine}
 use Rattle.sending.specs.Stream.{flags, flagsBefore, unitsLine}
 use Rattle.board.specs.declared.Settings.{Settings}
 use Rattle.board.specs.declared.Link.{Link}
+use Rattle.board.specs.Link.{newLink}
 use Rattle.units.specs.Desk.{Office, isFree}
 use Rattle.reception.specs.Line.{boardAfter}
 use Rattle.link.specs.Calls.{Outcome, openAnswer, readPart}
 use Rattle.transmission.specs.Transmission.{Sending, send, fill, linkAfter, octetsSent, Accepted, waitingBits, fillsFirst, contentsFrom, contents}
+use Rattle.transmission.specs.Promises.{row1}
 use Rattle.readback.specs.Feeding.{Held, board, Feed, heldAfter, recordsFed, octetsFed}
 use Rattle.readback.specs.Shelf.{unitOctets, shelfAfter, shelfRecords}
 use Rattle.readback.specs.Reading.{Stands, Reported}
@@ -126,3 +128,17 @@ AllReadInTurns =
     → Sends b → openAnswer l s pool descriptors .number ≡ 0 → s .filter ≡ false → AllAllowed (s .m) (contents (b .sendings))
     → Roomy (booked l s pool descriptors) ts → octetsTurned ts ≡ line b
     → HandsOver (booked l s pool descriptors) ts (closedOut (waits b) (contents (b .sendings)))
+
+-- An example: the octets of three calls of one booking (`ThreeSent` of transmission), read by another with one slot: the record of the unit whose
+-- closing flag is out, and no other.
+abbrev pub sampleFeed : Feed
+sampleFeed =
+    record {
+      octets = 0x7e ∷ 0x1f ∷ 0x04 ∷ 0x06 ∷ 0x6a ∷ 0x11 ∷ 0xfc ∷ 0x3e ∷ 0x08 ∷ 0x00 ∷ 0xb8 ∷ 0xe8 ∷ 0xf8 ∷ [];
+      records = replicate 624 0;
+    }
+
+abbrev pub SampleRead : Type 0
+SampleRead =
+    recordsFed (booked newLink row1 (replicate 280 0) (0 ∷ 0 ∷ [])) (sampleFeed ∷ [])
+    ≡ 0 ∷ 0 ∷ 5 ∷ 0 ∷ 0 ∷ 0 ∷ 1 ∷ 0 ∷ 0x1f ∷ 2 ∷ 3 ∷ 0xb5 ∷ 0x08 ∷ 0 ∷ 0 ∷ 0 ∷ []
