@@ -22,10 +22,11 @@ use Rattle.board.specs.Order.{malformed, countOut}
 use Rattle.board.proofs.Orders.{both, Ranges, InOrder, in-order}
 use Rattle.board.proofs.Past.{past-holds}
 use Rattle.units.specs.Marks.{lineReceiver, lineMarks}
-use Rattle.reception.specs.declared.Progress.{Progress}
+use Rattle.marks.specs.declared.Progress.{Progress}
 use Rattle.reception.specs.declared.Passed.{Passed}
-use Rattle.reception.specs.Line.{limitsOf, boardAfter, lineHappenings, lineRecords}
-use Rattle.reception.specs.Writing.{Written, holding, marksDone, Ready, LineTaken}
+use Rattle.marks.specs.Writing.{limitsOf, Written, holding, marksDone}
+use Rattle.reception.specs.Line.{boardAfter, lineHappenings, lineRecords}
+use Rattle.reception.specs.Writing.{Ready, LineTaken}
 use Rattle.link.specs.Refusals.{fitsMemory}
 use Rattle.input.specs.Refusals.{receiveNumber}
 use Rattle.input.specs.Receive.{ReceiveOutcome, progressOf, boardOf, linkAfter, received, receiveAnswer}

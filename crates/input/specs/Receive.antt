@@ -8,7 +8,7 @@ use Rattle.framing.specs.Representation.{decode, encode, encodeArea}
 use Rattle.board.specs.declared.Link.{Link}
 use Rattle.board.specs.declared.Gathering.{Gathering}
 use Rattle.units.specs.Desk.{office}
-use Rattle.reception.specs.declared.Progress.{Progress}
+use Rattle.marks.specs.declared.Progress.{Progress}
 use Rattle.reception.specs.Line.{Board, boardAfter, lineHappenings, lineRecords}
 use Rattle.link.specs.Refusals.{pick}
 use Rattle.input.specs.Refusals.{receiveNumber}

@@ -2,7 +2,7 @@
 use board::Gathering;
 use board::Link;
 use board::order;
-use reception::Progress;
+use marks::Progress;
 use records::Watch;
 use units::Desk;
 ghost use mathlib.Core.Path.{_≡_};

@@ -28,7 +28,7 @@ use Rattle.board.proofs.Past.{none-above, part-above, past-goes, past-ends}
 use Rattle.units.specs.Marks.{Mark, found, octetEnd}
 use Rattle.units.specs.Desk.{Office, Served, pickℕ, isFree, goodUnit, erroredUnit, closedUnit, octetServed, serves, nextOffice, officeAfter}
 use Rattle.units.proofs.Desks.{each-fate, each-pick, each-verdict}
-use Rattle.reception.specs.Line.{limitsOf}
+use Rattle.marks.specs.Writing.{limitsOf}
 
 -- ---- from facts to tests
 or-false : (a b : Bool) → a ≡ false → b ≡ false → a || b ≡ false

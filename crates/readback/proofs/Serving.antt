@@ -22,7 +22,8 @@ use Rattle.records.specs.Record.{watched, recordsOf}
 use Rattle.units.specs.Marks.{Mark, found, octetEnd, lineMarks}
 use Rattle.units.specs.Fit.{Fits}
 use Rattle.units.specs.Desk.{Office, Served, served, deskOf, oneMore, unitOf, isFree, handOver, goodCounts, overCounts, goodUnit, closedUnit, octetServed, serves, nextOffice, officeAfter, happenings}
-use Rattle.reception.specs.Line.{Board, limitsOf, boardAfter, lineHappenings, lineRecords}
+use Rattle.marks.specs.Writing.{limitsOf}
+use Rattle.reception.specs.Line.{Board, boardAfter, lineHappenings, lineRecords}
 use Rattle.reception.proofs.Octets.{single-octet}
 use Rattle.readback.specs.Feeding.{Held, board}
 use Rattle.readback.specs.Reading.{Stands, Reported}

@@ -16,7 +16,7 @@ use Rattle.board.specs.declared.Settings.{Settings}
 use Rattle.units.specs.Marks.{lineMarks}
 use Rattle.units.specs.Fit.{Fits}
 use Rattle.reception.specs.Line.{Board, boardAfter, lineRecords}
-use Rattle.reception.specs.Writing.{holding, marksDone}
+use Rattle.marks.specs.Writing.{holding, marksDone}
 use Rattle.reception.proofs.Octets.{ready-kept}
 use Rattle.reception.proofs.Cutting.{board-cut, records-cut}
 use Rattle.input.specs.Receive.{progressOf}

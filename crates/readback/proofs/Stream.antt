@@ -14,7 +14,8 @@ use Rattle.records.specs.declared.Happening.{Happening}
 use Rattle.records.specs.Record.{recordsOf}
 use Rattle.board.specs.declared.Settings.{Settings}
 use Rattle.units.specs.Marks.{lineMarks}
-use Rattle.reception.specs.Line.{Board, limitsOf, boardAfter, lineHappenings, lineRecords}
+use Rattle.marks.specs.Writing.{limitsOf}
+use Rattle.reception.specs.Line.{Board, boardAfter, lineHappenings, lineRecords}
 use Rattle.link.specs.Calls.{Outcome, openedLink}
 use Rattle.link.proofs.Kept.{opened}
 use Rattle.readback.specs.Feeding.{Held, board, heldAfter, recordsFed, octetsFed, Answered}

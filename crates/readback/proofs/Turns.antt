@@ -24,7 +24,8 @@ use Rattle.records.specs.Record.{watchAfter, recordsOf}
 use Rattle.units.specs.Marks.{Mark, found, octetEnd, lineMarks}
 use Rattle.units.specs.Desk.{Office, nextOffice, happens, happenings}
 use Rattle.units.proofs.Desks.{found-one}
-use Rattle.reception.specs.Line.{Board, limitsOf, boardAfter, lineHappenings, lineRecords}
+use Rattle.marks.specs.Writing.{limitsOf}
+use Rattle.reception.specs.Line.{Board, boardAfter, lineHappenings, lineRecords}
 use Rattle.link.specs.Refusals.{pick, readNumber}
 use Rattle.link.specs.Calls.{Outcome, outcome, openedLink, handAnswer}
 use Rattle.input.specs.Receive.{ReceiveOutcome}

@@ -16,7 +16,8 @@ use Rattle.board.specs.Order.{noOnes, zeroPast}
 use Rattle.board.proofs.Orders.{InOrder, Ranges, ranges}
 use Rattle.units.specs.Marks.{lineMarks}
 use Rattle.reception.specs.Line.{Board, boardAfter, lineHappenings, lineRecords}
-use Rattle.reception.specs.Writing.{holding, Ready, marksDone}
+use Rattle.marks.specs.Writing.{holding, marksDone}
+use Rattle.reception.specs.Writing.{Ready}
 use Rattle.reception.proofs.Octets.{ready-kept}
 use Rattle.link.specs.Refusals.{first, fitsMemory, readNumber}
 use Rattle.input.specs.Refusals.{receiveNumber}

@@ -13,7 +13,8 @@ use Rattle.board.specs.declared.Settings.{Settings}
 use Rattle.units.specs.Marks.{Mark, octetReceiver, octetMarks, lineReceiver, lineMarks}
 use Rattle.units.specs.Desk.{Office, officeAfter, happenings}
 use Rattle.units.proofs.Desks.{office-append, happenings-append, sum-after}
-use Rattle.reception.specs.Line.{Board, limitsOf, boardAfter, lineHappenings, lineRecords}
+use Rattle.marks.specs.Writing.{limitsOf}
+use Rattle.reception.specs.Line.{Board, boardAfter, lineHappenings, lineRecords}
 use Rattle.reception.specs.Promises.{BoardCut, HappeningsCut, RecordsCut, SixteenEach, ThreeEach, SumOverLine}
 use Rattle.reception.proofs.Octets.{happenings-five, three}
 use Rattle.reception.proofs.Lines.{receiver-append, marks-of-both}

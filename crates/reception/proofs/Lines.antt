@@ -12,11 +12,11 @@ use Rattle.framing.specs.Representation.{decode, wellFormed}
 use Rattle.records.specs.Promises.{LimitsInRange}
 use Rattle.board.specs.declared.Settings.{Settings}
 use Rattle.units.specs.Marks.{Mark, octetReceiver, octetMarks, lineReceiver, lineMarks}
-use Rattle.reception.specs.declared.Progress.{Progress}
+use Rattle.marks.specs.declared.Progress.{Progress}
 use Rattle.reception.specs.declared.Passed.{Passed}
-use Rattle.reception.specs.Line.{limitsOf}
-use Rattle.reception.specs.Writing.{Written, holding, marksDone, Able, Ready, LineTaken}
-use Rattle.reception.proofs.Recording.{marks-none, marks-append}
+use Rattle.marks.specs.Writing.{limitsOf, Written, holding, marksDone, Able}
+use Rattle.reception.specs.Writing.{Ready, LineTaken}
+use Rattle.marks.proofs.Recording.{marks-none, marks-append}
 use Rattle.reception.proofs.Octets.{happenings-five, marks-length}
 
 pub receiver-append : (M : ℕ) (xs ys : List ℕ) (st : Receiver) → lineReceiver M st (xs ++ ys) ≡ lineReceiver M (lineReceiver M st xs) ys

@@ -32,11 +32,11 @@ use Rattle.units.specs.Desk.{Office, nextOffice, happens, officeAfter, happenin
 use Rattle.units.specs.Fit.{Fits}
 use Rattle.units.specs.Promises.{Allowed}
 use Rattle.units.proofs.Desks.{fit-kept, found-one, one-at-most, first-fives, happenings-append}
-use Rattle.reception.specs.declared.Progress.{Progress}
+use Rattle.marks.specs.declared.Progress.{Progress}
 use Rattle.reception.specs.declared.Passed.{Passed}
-use Rattle.reception.specs.Line.{limitsOf}
-use Rattle.reception.specs.Writing.{Written, holding, marksDone, Able, Ready, StandsIn, Shown, areaAfter, LineTaken}
-use Rattle.reception.proofs.Recording.{marks-none, marks-append}
+use Rattle.marks.specs.Writing.{limitsOf, Written, holding, marksDone, Able, StandsIn, Shown, areaAfter}
+use Rattle.reception.specs.Writing.{Ready, LineTaken}
+use Rattle.marks.proofs.Recording.{marks-none, marks-append}
 
 -- ---- what marks keep
 -- each finding is one that the desk can take

@@ -1,7 +1,6 @@
 -- A run of line octets: the receiver gives marks, the desk happenings, the watch records.
 use Prim.Native.Nat.{ℕ}
 use mathlib.Core.List.{List}
-use Rattle.monitor.specs.declared.Limits.{Limits}
 use Rattle.records.specs.declared.Watch.{Watch}
 use Rattle.records.specs.Record.{watchAfter, recordsOf}
 use Rattle.framing.specs.Delimitation.{Receiver}
@@ -9,15 +8,13 @@ use Rattle.board.specs.declared.Settings.{Settings}
 use Rattle.units.specs.Marks.{lineReceiver, lineMarks}
 use Rattle.records.specs.declared.Happening.{Happening}
 use Rattle.units.specs.Desk.{Office, officeAfter, happenings}
+use Rattle.marks.specs.Writing.{limitsOf}
 
 -- the whole of a receiver's state, the lent memory included
 pub record Board : Type 0 where
   pub receiver : Receiver
   pub office : Office
   pub watch : Watch
-
-abbrev pub limitsOf : Settings → Limits
-limitsOf s = record { t = s .t; d = s .d; a = s .a }
 
 -- what line octets bring, in order
 unfoldable pub lineHappenings : Settings → Board → List ℕ → List Happening

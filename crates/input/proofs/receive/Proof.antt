@@ -3,8 +3,9 @@ use Prim.Native.Nat.{_+_, _*_, _≤_}
 use mathlib.Core.Path.{_≡_, sym, subst, _∙_}
 use native.Mathlib.Omega.{arith}
 use lib.ListN.{length}
-use Rattle.reception.specs.declared.Progress.{Progress}
-use Rattle.reception.specs.Writing.{holding, Ready, LineTaken}
+use Rattle.marks.specs.declared.Progress.{Progress}
+use Rattle.marks.specs.Writing.{holding}
+use Rattle.reception.specs.Writing.{Ready, LineTaken}
 use Rattle.bits.proofs.Typed.{array-of-octets}
 use Rattle.input.proofs.Receiving.{receivable, limits, ready, held, receive-refused, receive-done}
 use borrow.Author.Needs.{needs}

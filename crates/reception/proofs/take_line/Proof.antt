@@ -1,14 +1,12 @@
 -- `reception::take_line` meets its contract: the octets so far are taken.
 use Rattle.reception.proofs.take_line.Statement.{statement}
 use Rattle.reception.proofs.take_line.Tie as tie
-use Rattle.reception.proofs.take_line.Reads as reads
-use Rattle.reception.proofs.take_line.Lts as lts
-use Rattle.reception.proofs.take_octet.Reads as take-octet-reads
 use Prim.Native.Nat.{_≤_, _-_}
 use mathlib.Core.Path.{_≡_, refl, sym, _∙_}
 use native.Mathlib.Omega.{arith}
 use lib.ListN.{length, take}
-use Rattle.reception.specs.Writing.{holding, LineTaken}
+use Rattle.marks.specs.Writing.{holding}
+use Rattle.reception.specs.Writing.{LineTaken}
 use Rattle.reception.proofs.Lines.{taken-none, taken-next, taken-all, same-out, room-left, next-able}
 
 abbrev Inv-loop : tie.InvT-loop
@@ -19,18 +17,15 @@ Inv-loop s octets area₀ pool₀ descriptors₀ out₀ cur₀ q₀ at₀ area p
 abbrev μ-loop : tie.MeasureT-loop
 μ-loop s octets area₀ pool₀ descriptors₀ out₀ cur₀ q₀ at₀ area pool descriptors out cur q at = length octets - at
 
--- src/lib.rt:196:5
 loop-holds : tie.Need-loop-holds Inv-loop μ-loop
 loop-holds c =
     let a = c .before .before .before .before .args in
     let p = c .before .before .before .before .pre in
     (omega arith, taken-none (a .s) (a .line) (a .area .now) (holding (a .p) (a .pool .now) (a .descriptors .now) (a .out .now)) (a .p) (a .pool .now) (a .descriptors .now) (a .out .now) refl (p .1 .0) (p .0 .3))
 
--- src/lib.rt:197:44
 shared-slice-read-take-octet : tie.Need-shared-slice-read-take-octet Inv-loop μ-loop
 shared-slice-read-take-octet c = c .before .loop-test .taken
 
--- src/lib.rt:197:13
 take-octet-requires : tie.Need-take-octet-requires Inv-loop μ-loop
 take-octet-requires c κs =
     let a = c .before .before .before .before .before .before .before .before .before .before .before .args in
@@ -39,15 +34,12 @@ take-octet-requires c κs =
     let k = room-left (a .s) (a .line) (a .area .now) (holding (a .p) (a .pool .now) (a .descriptors .now) (a .out .now)) (a .octets .now) (l .at) (c .before .before .before .before .before .loop-test .taken) (record { line = l .cur; progress = l .q }) (l .area) (holding (l .q) (l .pool) (l .descriptors) (l .out)) (p .1 .1) (l .inv .1) in
     (next-able (a .s) (l .q) (l .pool) (l .descriptors) (l .out) (p .0 .0, p .0 .1) (p .0 .2) (l .inv .1 .ready) k, (l .inv .1 .held, k))
 
--- src/lib.rt:200:9
 add-at : tie.Need-add-at Inv-loop μ-loop
 add-at c = omega (arith, c .before .before .before .before .before .before .before .before .before .before .before .before .before .before .loop-test .taken, c .before .before .before .before .before .before .before .before .before .before .before .before .before .before .before .before .before .before .before .before .pre .1 .2)
 
--- src/lib.rt:196:5
 loop-less : tie.Need-loop-less Inv-loop μ-loop
 loop-less c = omega (arith, c .before .before .before .before .before .before .before .before .before .before .before .before .before .before .loop-test .taken)
 
--- src/lib.rt:196:5
 loop-again : tie.Need-loop-again Inv-loop μ-loop
 loop-again c =
     let a = c .before .before .before .before .before .before .before .before .before .before .before .before .before .before .before .before .before .before .before .before .args in
@@ -60,22 +52,18 @@ loop-again c =
           (l .inv .1) (t .ensures),
     )
 
--- src/lib.rt:179:1
 same-length : tie.Need-same-length Inv-loop μ-loop
 same-length c = c .before .loop .inv .1 .ready .fits .octets ∙ sym (c .before .before .before .before .before .before .pre .0 .3 .fits .octets)
 
--- src/lib.rt:179:1
 same-length-2 : tie.Need-same-length-2 Inv-loop μ-loop
 same-length-2 c = c .before .loop .inv .1 .ready .fits .words ∙ sym (c .before .before .before .before .before .before .pre .0 .3 .fits .words)
 
--- src/lib.rt:179:1
 same-length-3 : tie.Need-same-length-3 Inv-loop μ-loop
 same-length-3 c =
     let a = c .before .before .before .before .before .before .args in
     let l = c .before .loop in
     same-out (a .s) (a .line) (a .area .now) (holding (a .p) (a .pool .now) (a .descriptors .now) (a .out .now)) (take (l .at) (a .octets .now)) (record { line = l .cur; progress = l .q }) (l .area) (holding (l .q) (l .pool) (l .descriptors) (l .out)) (l .inv .1)
 
--- src/lib.rt:179:1
 returns : tie.Need-returns Inv-loop μ-loop
 returns c =
     let a = c .before .before .before .before .before .before .args in

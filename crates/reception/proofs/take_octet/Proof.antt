@@ -1,17 +1,12 @@
 -- `reception::take_octet` meets its contract: the findings still to come, dealt with from here, give the whole octet.
 use Rattle.reception.proofs.take_octet.Statement.{statement}
 use Rattle.reception.proofs.take_octet.Tie as tie
-use Rattle.reception.proofs.take_octet.Reads as reads
-use Rattle.reception.proofs.take_octet.Lts as lts
-use Rattle.framing.proofs.delimit.feed.Reads as feed-reads
-use Rattle.reception.proofs.end_octet.Reads as end-octet-reads
-use Rattle.reception.proofs.take_found.Reads as take-found-reads
 use mathlib.Core.Path.{_≡_, sym, _∙_}
 use native.Mathlib.Omega.{arith}
 use Rattle.bits.specs.Octets.{bitsOf}
 use Rattle.framing.specs.Delimitation.{reading}
 use Rattle.framing.specs.Representation.{decode}
-use Rattle.reception.specs.Writing.{holding}
+use Rattle.marks.specs.Writing.{holding}
 use Rattle.reception.proofs.Octets.{Between, at-start, able, stands-in, shown, less, turn, ended}
 
 abbrev Inv-loop : tie.InvT-loop
@@ -22,20 +17,17 @@ abbrev μ-loop : tie.MeasureT-loop
 μ-loop s octet area₀ pool₀ descriptors₀ out₀ cur₀ rest₀ left₀ q₀ area pool descriptors out cur rest left q =
     left
 
--- src/lib.rt:154:5
 loop-holds : tie.Need-loop-holds Inv-loop μ-loop
 loop-holds c =
     let a = c .before .before .before .args in
     let p = c .before .before .before .pre in
     at-start (a .s) (a .line) (a .area .now) (a .pool .now) (a .descriptors .now) (a .out .now) (a .octet) (a .p) (p .0) (p .1 .0) (p .1 .1)
 
--- src/lib.rt:155:13
 feed-requires : tie.Need-feed-requires Inv-loop μ-loop
 feed-requires c κs =
     let b = c .before .before .loop .inv in
     ((b .longest .1, b .few), b .held)
 
--- src/lib.rt:161:9
 take-found-requires : tie.Need-take-found-requires Inv-loop μ-loop
 take-found-requires c κs =
     let a = c .before .before .before .before .before .before .before .before .before .before .before .before .before .args in
@@ -45,7 +37,6 @@ take-found-requires c κs =
       stands-in (a .s .m) (f .result .step .line) (f .result .step .found) (f .last .1 .1 .0) (l .inv .longest .1) (f .ensures .step .holds),
     )
 
--- src/lib.rt:154:5
 loop-less : tie.Need-loop-less Inv-loop μ-loop
 loop-less c =
     let a = c .before .before .before .before .before .before .before .before .before .before .before .before .before .before .before .before .before .before .before .before .args in
@@ -54,7 +45,6 @@ loop-less c =
     less (a .s) (a .line) (a .area .now) (a .octet) (holding (a .p) (a .pool .now) (a .descriptors .now) (a .out .now)) (l .area) (l .pool) (l .descriptors) (l .out) (l .cur) (l .rest) (l .left) (l .q) (l .inv)
     (f .result) (f .last .1 .1 .0) (f .ensures) (c .before .before .before .before .before .before .before .before .before .before .before .before .before .before .before .loop-test .taken)
 
--- src/lib.rt:154:5
 loop-again : tie.Need-loop-again Inv-loop μ-loop
 loop-again c =
     let a = c .before .before .before .before .before .before .before .before .before .before .before .before .before .before .before .before .before .before .before .before .args in
@@ -66,32 +56,27 @@ loop-again c =
     (f .result) (f .last .1 .1 .0) (f .ensures) (t .result) (t .last .1 .1 .1 .1 .0) (t .last .1 .1 .1 .1 .1 .0) (t .last .1 .1 .1 .1 .1 .1 .0) (t .last .1 .1 .1 .0)
     (t .ensures .0 found (shown (a .s) (a .line) (a .area .now) (a .octet) (holding (a .p) (a .pool .now) (a .descriptors .now) (a .out .now)) (l .area) (l .pool) (l .descriptors) (l .out) (l .cur) (l .rest) (l .left) (l .q) (l .inv) (f .result) (f .last .1 .1 .0) (f .ensures))) (t .ensures .1)
 
--- src/lib.rt:163:9
 end-octet-requires : tie.Need-end-octet-requires Inv-loop μ-loop
 end-octet-requires c κs =
     let b = c .before .before .loop .inv in
     (b .limits, b .ready .monitor, omega (arith, b .room), b .ready .fits .counter)
 
--- src/lib.rt:136:1
 same-length : tie.Need-same-length Inv-loop μ-loop
 same-length c =
     let b = c .before .before .before .before .before .loop .inv in
     b .ready .fits .octets ∙ sym (c .before .before .before .before .before .before .before .before .before .pre .0 .fits .octets)
 
--- src/lib.rt:136:1
 same-length-2 : tie.Need-same-length-2 Inv-loop μ-loop
 same-length-2 c =
     let b = c .before .before .before .before .before .loop .inv in
     b .ready .fits .words ∙ sym (c .before .before .before .before .before .before .before .before .before .pre .0 .fits .words)
 
--- src/lib.rt:136:1
 same-length-3 : tie.Need-same-length-3 Inv-loop μ-loop
 same-length-3 c =
     let l = c .before .before .before .before .before .loop in
     let e = c .before .before .end-octet in
     e .kept .1 .1 .0 ∙ l .inv .same
 
--- src/lib.rt:136:1
 returns : tie.Need-returns Inv-loop μ-loop
 returns c =
     let a = c .before .before .before .before .before .before .before .before .before .args in

@@ -11,9 +11,9 @@ use Rattle.units.specs.declared.Desk.{Desk}
 use Rattle.units.specs.declared.Taken.{Taken}
 use Rattle.units.specs.Marks.{octetEnd}
 use Rattle.units.specs.Desk.{Office, office, Served, served, deskOf, pickℕ, ticks, tickOf, octetServed, serves}
-use Rattle.reception.specs.declared.Progress.{Progress}
-use Rattle.reception.specs.Writing.{holding, marksDone, PutDown}
-use Rattle.reception.proofs.Recording.{mark-one, mark-quiet}
+use Rattle.marks.specs.declared.Progress.{Progress}
+use Rattle.marks.specs.Writing.{holding, marksDone, PutDown}
+use Rattle.marks.proofs.Recording.{mark-one, mark-quiet}
 
 module _ (s : Settings) (p : Progress) (left : ℕ) (e : left ≡ pickℕ (eqb (p .desk .counting .left) 1) (s .n) (p .desk .counting .left - 1)) where
   -- the desk with the counter moved on

@@ -15,9 +15,9 @@ use Rattle.board.specs.declared.Settings.{Settings}
 use Rattle.units.specs.declared.Taken.{Taken}
 use Rattle.units.specs.Marks.{Mark, found}
 use Rattle.units.specs.Desk.{Office, office, Served, served, closedUnit, broken, serves}
-use Rattle.reception.specs.declared.Progress.{Progress}
-use Rattle.reception.specs.Writing.{Written, holding, marksDone, PutDown, Shown, StandsIn, areaAfter}
-use Rattle.reception.proofs.Recording.{marks-none, mark-one}
+use Rattle.marks.specs.declared.Progress.{Progress}
+use Rattle.marks.specs.Writing.{Written, holding, marksDone, PutDown, Shown, StandsIn, areaAfter}
+use Rattle.marks.proofs.Recording.{marks-none, mark-one}
 
 -- ---- which findings are shown so
 apart : {A : Type 0} → _≡_ {A = ℕ} 0 1 → A

@@ -1,8 +1,8 @@
--- `reception::end_octet` meets its contract: a tick, or none.
-use Rattle.reception.proofs.Ends.{tick-way, not-counting, not-due}
+-- `marks::end_octet` meets its contract: a tick, or none.
+use Rattle.marks.proofs.Ends.{tick-way, not-counting, not-due}
 use borrow.Author.Needs.{needs}
-use Rattle.reception.proofs.end_octet.Statement.{statement}
-use Rattle.reception.proofs.end_octet.Tie as tie
+use Rattle.marks.proofs.end_octet.Statement.{statement}
+use Rattle.marks.proofs.end_octet.Tie as tie
 
 count-down-requires : tie.Need-count-down-requires
 count-down-requires c κs = search needs

@@ -1,9 +1,9 @@
--- `reception::take_found` meets its contract, finding by finding.
-use Rattle.reception.proofs.Findings.{nothing-way, closed-way, abort-way, long-way, stands, clear-area}
+-- `marks::take_found` meets its contract, finding by finding.
+use Rattle.marks.proofs.Findings.{nothing-way, closed-way, abort-way, long-way, stands, clear-area}
 use native.Mathlib.Omega.{arith}
 use borrow.Author.Needs.{needs}
-use Rattle.reception.proofs.take_found.Statement.{statement}
-use Rattle.reception.proofs.take_found.Tie as tie
+use Rattle.marks.proofs.take_found.Statement.{statement}
+use Rattle.marks.proofs.take_found.Tie as tie
 
 enum-told : tie.Need-enum-told
 enum-told c = search needs

@@ -1,10 +1,10 @@
--- `reception::put_down` meets its contract: what the monitor notes is what is recorded.
-use Rattle.reception.proofs.Recording.{put-down-way}
-use Rattle.reception.specs.Line.{limitsOf}
+-- `marks::put_down` meets its contract: what the monitor notes is what is recorded.
+use Rattle.marks.proofs.Recording.{put-down-way}
+use Rattle.marks.specs.Writing.{limitsOf}
 use Rattle.records.proofs.Range.{range-takes}
 use borrow.Author.Needs.{needs}
-use Rattle.reception.proofs.put_down.Statement.{statement}
-use Rattle.reception.proofs.put_down.Tie as tie
+use Rattle.marks.proofs.put_down.Statement.{statement}
+use Rattle.marks.proofs.put_down.Tie as tie
 
 note-requires : tie.Need-note-requires
 note-requires c κs =

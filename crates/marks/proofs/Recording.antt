@@ -23,9 +23,8 @@ use Rattle.units.specs.Marks.{Mark}
 use Rattle.units.proofs.Desks.{office-append, happenings-append}
 use Rattle.monitor.specs.declared.Limits.{Limits}
 use Rattle.units.specs.Desk.{Office, office, Served, served, serves, nextOffice, happens, officeAfter, happenings}
-use Rattle.reception.specs.declared.Progress.{Progress}
-use Rattle.reception.specs.Line.{limitsOf}
-use Rattle.reception.specs.Writing.{Written, holding, marksDone, PutDown}
+use Rattle.marks.specs.declared.Progress.{Progress}
+use Rattle.marks.specs.Writing.{limitsOf, Written, holding, marksDone, PutDown}
 
 -- ---- one happening
 pub put-down-way : (s : Settings) (taken : Taken) (w : Watch) (count : ℕ) (out : List ℕ) (n : Noted) (out′ : List ℕ)

@@ -1,0 +1,2 @@
+-- One mark, from desk to record.
+pub mod Writing
