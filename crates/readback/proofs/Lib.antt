@@ -12,4 +12,7 @@ pub mod Using
 pub mod Sends
 pub mod Turns
 pub mod ReadBack
+pub mod Once
+pub mod Emptying
+pub mod OneByOne
 pub mod Cases

@@ -81,10 +81,10 @@ unfolding unitsLine
 units-append [] ys = refl
 units-append (x ∷ xs) ys = ap (λ (bs : List Bool). unitLine x ++ bs) (units-append xs ys) ∙ sym (append-assoc (unitLine x) (unitsLine xs) (unitsLine ys))
 
-abbrev waiting : Booking → List Bool
+abbrev pub waiting : Booking → List Bool
 waiting b = waitingBits (linkAfter (opening b .link) (b .sendings))
 
-sent-line : (b : Booking) → Sends b
+pub sent-line : (b : Booking) → Sends b
     → (lineBits (line b) ++ waiting b ≡ streamLine (fillsFirst (b .sendings)) (contents (b .sendings))) × (length (waiting b) ≤ 7)
 sent-line b s = transmitter-line (b .link) (b .settings) (b .pool) (b .descriptors) (b .sendings) (s .opens) (s .accepts)
 

@@ -11,6 +11,7 @@ use Rattle.bits.specs.Machine.{run, outs-append}
 use Rattle.bits.proofs.Lines.{line-append}
 use Rattle.framing.specs.Delimitation.{Receiver, Finding, closed, next, finds, after, findings}
 use Rattle.framing.specs.Representation.{decode}
+use Rattle.sending.specs.Stream.{streamLine}
 use Rattle.sending.specs.Stuffing.{unitBits}
 use Rattle.memory.specs.Lent.{statusOf, withSlot, withDescriptor, emptySlot}
 use Rattle.monitor.specs.declared.Mode.the-variants.{Off}
@@ -32,7 +33,7 @@ use Rattle.input.specs.Receive.{ReceiveOutcome}
 use Rattle.link.proofs.Kept.{opened}
 use Rattle.input.proofs.Cutting.{answered}
 use Rattle.readback.specs.Feeding.{Held, board, Feed, answer, fed, wrote}
-use Rattle.readback.specs.Shelf.{Shelf, shelfAfter, shelfRecords}
+use Rattle.readback.specs.Shelf.{Shelf, shelved, shelfAfter, shelfRecords}
 use Rattle.readback.specs.Streams.{AllAllowed, closedOut}
 use Rattle.readback.specs.Streams.{none as none-allowed, more as more-allowed}
 use Rattle.readback.specs.Turns.{Turn, handedBack, turned, octetsTurned, Roomy, none, more, shelfOf, HandsOver, StreamTurns}
@@ -40,17 +41,17 @@ use Rattle.readback.proofs.Closing.{by-bits}
 use Rattle.readback.proofs.Feeding.{can-receive, same-settings, board-fed, records-wrote}
 use Rattle.readback.proofs.Pieces.{stream-found}
 use Rattle.readback.proofs.Pieces.{found as closings}
-use Rattle.readback.proofs.Handing.{foundIn, found-line, Free, Handed, all-handed, unwatched, handed-records, handed-unwatched}
+use Rattle.readback.proofs.Handing.{foundIn, found-line, Free, Handed, handeds, all-handed, unwatched, handed-records, handed-unwatched}
 use Rattle.readback.proofs.Handing.{shelfOf as deskShelf}
 use Rattle.readback.proofs.Stream.{fresh, closed-allowed}
 
 -- ---- findings in two parts are those of units in two parts
-record Parted (us : List (List ℕ)) (xs ys : List Finding) : Type 0 where
-  early : List (List ℕ)
-  late : List (List ℕ)
-  is : us ≡ early ++ late
-  first : xs ≡ closings early
-  rest : ys ≡ closings late
+pub record Parted (us : List (List ℕ)) (xs ys : List Finding) : Type 0 where
+  pub early : List (List ℕ)
+  pub late : List (List ℕ)
+  pub is : us ≡ early ++ late
+  pub first : xs ≡ closings early
+  pub rest : ys ≡ closings late
 
 one-parted : (u : List ℕ) (us : List (List ℕ)) (x : Finding) (xs ys : List Finding) → x ≡ closed (unitBits u) → Parted us xs ys
     → Parted (u ∷ us) (x ∷ xs) ys
@@ -68,11 +69,11 @@ parted us [] ys e = record { early = []; late = us; is = refl; first = refl; res
 parted [] (x ∷ xs) ys e = absurd (omega (arith, ap length e))
 parted (u ∷ us) (x ∷ xs) ys e = one-parted u us x xs ys (cc) (parted us xs ys (cc))
 
-closings-length : (us : List (List ℕ)) → length (closings us) ≡ length us
+pub closings-length : (us : List (List ℕ)) → length (closings us) ≡ length us
 closings-length [] = refl
 closings-length (u ∷ us) = omega (arith, closings-length us)
 
-both-allowed : (M : ℕ) (us vs : List (List ℕ)) → AllAllowed M (us ++ vs) → AllAllowed M us × AllAllowed M vs
+pub both-allowed : (M : ℕ) (us vs : List (List ℕ)) → AllAllowed M (us ++ vs) → AllAllowed M us × AllAllowed M vs
 both-allowed M [] vs a = (none-allowed, a)
 both-allowed M (u ∷ us) vs (more-allowed a rest) = let p = both-allowed M us vs rest in (more-allowed a (p .0), p .1)
 
@@ -94,6 +95,11 @@ found-happen s (octetEnd ∷ ms) o =
       length-append (happens s o octetEnd) (happenings s (nextOffice s o octetEnd) ms),
     )
 
+-- as many as the units handed over
+handed-count : (k : ℕ) (us : List (List ℕ)) (x : Shelf) → length (handeds k x us) ≡ length us
+handed-count k [] x = refl
+handed-count k (u ∷ us) x = omega (arith, handed-count k us (shelved k x u))
+
 -- ---- slots handed back: the link stays
 hand-link : (h : Held) (slot : ℕ) → handedBack h slot .link ≡ h .link
 unfolding handAnswer
@@ -105,17 +111,17 @@ hand-link h slot = go (eqb (readNumber (h .link) (h .pool) (h .descriptors) slot
     go true = refl
     go false = refl
 
-hand-links : (slots : List ℕ) (h : Held) → run handedBack h slots .link ≡ h .link
+pub hand-links : (slots : List ℕ) (h : Held) → run handedBack h slots .link ≡ h .link
 hand-links [] h = refl
 hand-links (slot ∷ slots) h = hand-links slots (handedBack h slot) ∙ hand-link h slot
 
 -- ---- a link that reads a line: the bits to come bring these units
-record Reads (l : Link) (bits : List Bool) (us : List (List ℕ)) : Type 0 where
-  off : l .settings .filter ≡ false
-  still : l .counting .on ≡ false
-  monitor : l .monitor ≡ started Off
-  allowed : AllAllowed (l .settings .m) us
-  coming : findings (l .settings .m) (decode (l .line .state) (l .line .area)) bits ≡ closings us
+pub record Reads (l : Link) (bits : List Bool) (us : List (List ℕ)) : Type 0 where
+  pub off : l .settings .filter ≡ false
+  pub still : l .counting .on ≡ false
+  pub monitor : l .monitor ≡ started Off
+  pub allowed : AllAllowed (l .settings .m) us
+  pub coming : findings (l .settings .m) (decode (l .line .state) (l .line .area)) bits ≡ closings us
 
 -- all slots of the ring
 every-free : (k n : ℕ) (x : Shelf) → n ≤ k → x .next < k → ((slot : ℕ) → slot < k → statusOf (x .descriptors) slot ≡ 32768) → Free k n x
@@ -124,10 +130,11 @@ every-free k n x few below e =
 
 -- ---- one call
 -- what it hands over, and what is still to come after it
-record Called (h : Held) (f : Feed) (later : List Bool) (us vs : List (List ℕ)) : Type 0 where
-  records : wrote h f ≡ shelfRecords (h .link .settings .k) (shelfOf h) us
-  shelf : shelfOf (fed h f) ≡ shelfAfter (h .link .settings .k) (shelfOf h) us
-  goes-on : Reads (fed h f .link) later vs
+pub record Called (h : Held) (f : Feed) (later : List Bool) (us vs : List (List ℕ)) : Type 0 where
+  pub count : answer h f .count ≡ length us
+  pub records : wrote h f ≡ shelfRecords (h .link .settings .k) (shelfOf h) us
+  pub shelf : shelfOf (fed h f) ≡ shelfAfter (h .link .settings .k) (shelfOf h) us
+  pub goes-on : Reads (fed h f .link) later vs
 
 module _ (h : Held) (f : Feed) (z : answer h f .number ≡ 0) where
   abbrev S : Settings
@@ -143,10 +150,10 @@ module _ (h : Held) (f : Feed) (z : answer h f .number ≡ 0) where
   marks = lineMarks (S .m) R (f .octets)
 
   -- what the call finds, and what is found later
-  abbrev Parts : List Bool → List (List ℕ) → Type 0
+  abbrev pub Parts : List Bool → List (List ℕ) → Type 0
   Parts later ws = Parted ws (findings (S .m) R (lineBits (f .octets))) (findings (S .m) (after (S .m) R (lineBits (f .octets))) later)
 
-  parts : (xs : List ℕ) (ws : List (List ℕ)) → Reads (h .link) (lineBits (f .octets ++ xs)) ws → Parts (lineBits xs) ws
+  pub parts : (xs : List ℕ) (ws : List (List ℕ)) → Reads (h .link) (lineBits (f .octets ++ xs)) ws → Parts (lineBits xs) ws
   parts xs ws r =
       parted ws (findings (S .m) R (lineBits (f .octets))) (findings (S .m) (after (S .m) R (lineBits (f .octets))) (lineBits xs))
       (sym (outs-append (next (S .m)) (finds (S .m)) (lineBits (f .octets)) (lineBits xs) R)
@@ -154,7 +161,7 @@ module _ (h : Held) (f : Feed) (z : answer h f .number ≡ 0) where
       ∙ r .coming)
 
   -- each finding brings a record, so the units are no more than the slots
-  few-units : (us : List (List ℕ)) → foundIn marks ≡ closings us → answer h f .count ≤ S .k → length us ≤ S .k
+  few-units : (us : List (List ℕ)) → findings (S .m) R (lineBits (f .octets)) ≡ closings us → answer h f .count ≤ S .k → length us ≤ S .k
   unfolding lineHappenings
   few-units us e c =
       omega (
@@ -162,7 +169,7 @@ module _ (h : Held) (f : Feed) (z : answer h f .number ≡ 0) where
         c,
         ap (λ (o : ReceiveOutcome). o .count) (answered (h .link) (f .octets) (h .pool) (h .descriptors) (f .records) z .1),
         found-happen S marks O,
-        ap length e,
+        ap length (found-line (S .m) (f .octets) R ∙ e),
         closings-length us,
       )
 
@@ -173,6 +180,13 @@ module _ (h : Held) (f : Feed) (z : answer h f .number ≡ 0) where
   module _ (us : List (List ℕ)) (unseen : h .link .monitor ≡ started Off) (is : Handed S O marks us) where
     off-watch : board h .watch ≡ unwatched (h .link .events)
     off-watch = ap {B = Watch} (λ (m : Monitor). record { monitor = m; events = h .link .events }) unseen
+
+    call-count : answer h f .count ≡ length us
+    unfolding lineHappenings
+    call-count =
+        ap (λ (o : ReceiveOutcome). o .count) (answered (h .link) (f .octets) (h .pool) (h .descriptors) (f .records) z .1)
+        ∙ ap length (is .all)
+        ∙ handed-count (S .k) us (shelfOf h)
 
     call-records : wrote h f ≡ shelfRecords (S .k) (shelfOf h) us
     unfolding lineRecords lineHappenings
@@ -196,18 +210,19 @@ module _ (h : Held) (f : Feed) (z : answer h f .number ≡ 0) where
         ∙ ap₂ (λ (w : Watch) (hs : List Happening). watchAfter (limitsOf S) w hs .monitor) off-watch (is .all)
         ∙ handed-unwatched (S .k) (limitsOf S) us (shelfOf h) (h .link .events)
 
-  -- of a link that reads a line, with every slot empty
-  called : (bits later : List Bool) (ws : List (List ℕ)) → Reads (h .link) bits ws → (p : Parts later ws)
-      → ((slot : ℕ) → slot < S .k → statusOf (h .descriptors) slot ≡ 32768) → answer h f .count ≤ S .k
+  -- of a link that reads a line, with every slot empty and one for each unit
+  pub called : (bits later : List Bool) (ws : List (List ℕ)) → Reads (h .link) bits ws → (p : Parts later ws)
+      → ((slot : ℕ) → slot < S .k → statusOf (h .descriptors) slot ≡ 32768) → length (p .early) ≤ S .k
       → Called h f later (p .early) (p .late)
   called bits later ws r p empty few =
       let us = p .early in
       let a = both-allowed (S .m) us (p .late) (subst (AllAllowed (S .m)) (p .is) (r .allowed)) in
       let marked : foundIn marks ≡ closings us = found-line (S .m) (f .octets) R ∙ p .first in
-      let free = every-free (S .k) (length us) (shelfOf h) (few-units us marked few) (can-receive h f z .order .next) empty in
+      let free = every-free (S .k) (length us) (shelfOf h) few (can-receive h f z .order .next) empty in
       let is = all-handed S (r .off) marks us O (a .0) free (r .still) marked in
       let same = same-settings h f z in
       record {
+        count = call-count us (r .monitor) is;
         records = call-records us (r .monitor) is;
         shelf = call-shelf us (r .monitor) is;
         goes-on =
@@ -241,21 +256,26 @@ turns-read (t ∷ ts) h us r (more z empty few rest) =
     let bits = lineBits (t .feed .octets ++ octetsTurned ts) in
     let later = lineBits (octetsTurned ts) in
     let p = parts h (t .feed) z (octetsTurned ts) us r in
-    one-turn t ts h later us (p .early) (p .late) (p .is) (called h (t .feed) z bits later us r p empty few)
+    one-turn t ts h later us (p .early) (p .late) (p .is)
+    (called h (t .feed) z bits later us r p empty (few-units h (t .feed) z (p .early) (p .first) few))
     (λ x. turns-read ts (turned h t) (p .late) x rest)
 
-pub stream-turns : StreamTurns
-stream-turns l s pool descriptors ts n cs w z off roomy e few a =
-    let us = closedOut (length w) cs in
-    let bits = lineBits (octetsTurned ts) in
-    let reads : Reads (openedLink s) bits us =
+-- a booking just opened reads a transmitter's line
+pub stream-reads : (s : Settings) (n : ℕ) (cs : List (List ℕ)) (bits w : List Bool) → s .filter ≡ false → bits ++ w ≡ streamLine n cs → length w ≤ 7
+    → AllAllowed (s .m) cs → Reads (openedLink s) bits (closedOut (length w) cs)
+stream-reads s n cs bits w off e few a =
     record {
       off = off;
       still = refl;
       monitor = refl;
       allowed = closed-allowed (s .m) (length w) cs a;
       coming = stream-found (s .m) n cs bits w a e few;
-    } in
+    }
+
+pub stream-turns : StreamTurns
+stream-turns l s pool descriptors ts n cs w z off roomy e few a =
+    let us = closedOut (length w) cs in
+    let reads = stream-reads s n cs (lineBits (octetsTurned ts)) w off e few a in
     subst (λ (o : Outcome).
     let held : Held = record { link = o .link; pool = o .pool; descriptors = o .descriptors } in
     Roomy held ts → HandsOver held ts us)

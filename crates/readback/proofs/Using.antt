@@ -34,7 +34,7 @@ use Rattle.readback.proofs.Feeding.{few-gathered, fed-as-one}
 use Rattle.readback.proofs.Ordered.{count-out, orderly, in-range, packed-past, left-most}
 
 -- the memory of k slots
-lent : (k : ℕ) (pool descriptors : List ℕ) → length pool ≡ 280 * k → length descriptors ≡ 2 * k → fitsMemory k pool descriptors ≡ true
+pub lent : (k : ℕ) (pool descriptors : List ℕ) → length pool ≡ 280 * k → length descriptors ≡ 2 * k → fitsMemory k pool descriptors ≡ true
 unfolding fitsMemory
 lent k pool descriptors p d = rw (eq-eqb (length pool) (280 * k) p, eq-eqb (length descriptors) (2 * k) d)
 
@@ -91,7 +91,7 @@ module _ (h : Held) (f : Feed) (u : InUse h) (few : length (f .octets) ≤ 1024)
   unfolding receiveAnswer
   is-received = done _ _ _ no-fault
 
-  taken : answer h f .number ≡ 0
+  pub taken : answer h f .number ≡ 0
   taken = ap (λ (o : ReceiveOutcome). o .number) is-received
 
   can : Receivable (h .link) (f .octets) (h .pool) (h .descriptors) (f .records)
@@ -144,7 +144,7 @@ module _ (h : Held) (f : Feed) (u : InUse h) (few : length (f .octets) ≤ 1024)
         wait = can .order .wait;
       }
 
-  still-used : InUse (fed h f)
+  pub still-used : InUse (fed h f)
   still-used =
       subst (λ (o : ReceiveOutcome). InUse (record { link = o .link; pool = o .pool; descriptors = o .descriptors })) (sym is-received)
       (record {

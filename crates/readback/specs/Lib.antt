@@ -6,3 +6,4 @@ pub mod Streams
 pub mod Using
 pub mod Turns
 pub mod Promises
+pub mod OneByOne
