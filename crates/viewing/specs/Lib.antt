@@ -1,3 +1,2 @@
 -- The program `lineview`.
 pub mod View
-pub mod Promises

@@ -2,12 +2,10 @@
 use board::Link;
 use libc::STDIN_FILENO;
 use libc::STDOUT_FILENO;
-
-mod view;
-
 ghost use mathlib.Core.Path.{_≡_};
 ghost use mathlib.Core.Bool.{true};
-ghost use Rattle.viewing.specs.View.{passed, allPassed};
+ghost use Rattle.booked.specs.View.{passed};
+ghost use Rattle.viewing.specs.View.{allPassed};
 
 // Whether to go on, and the link.
 struct Turn {
@@ -17,7 +15,7 @@ struct Turn {
 
 // Writes the first records of an area, and answers whether it could.
 fn write_records(records: &[u8], count: usize) -> bool {
-    let n = view::octets_of(count, records);
+    let n = booked::octets_of(count, records);
     let is_written = io::write_all(STDOUT_FILENO, &records[..n]);
     if !is_written {
         os::fail(b"write");
@@ -30,7 +28,7 @@ fn pass(link: Link, octet: u8, pool: &mut [u8], descriptors: &mut [u16]) -> Turn
     ensures { λ r. ⌜ record { link = r .link; pool = now (pool .exit); descriptors = now (descriptors .exit) } ≡ passed (record { link = link; pool = now (pool .entry); descriptors = now (descriptors .entry) }) octet ⌝ }
 {
     let mut records = [0u8; 48];
-    let fed = view::feed(link, octet, pool, descriptors, &mut records);
+    let fed = booked::feed(link, octet, pool, descriptors, &mut records);
     let is_written = write_records(&records, fed.count);
     let l = fed.link;
     Turn {
@@ -90,6 +88,6 @@ fn run(link: Link, pool: &mut [u8], descriptors: &mut [u16]) {
 pub fn view_input() {
     let mut pool = [0u8; 4480];
     let mut descriptors = [0u16; 32];
-    let link = view::booked(&mut pool, &mut descriptors);
+    let link = booked::booked(&mut pool, &mut descriptors);
     run(link, &mut pool, &mut descriptors);
 }

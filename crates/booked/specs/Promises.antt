@@ -7,7 +7,7 @@ use Rattle.monitor.specs.declared.Mode.the-variants.{Failure}
 use Rattle.monitor.specs.Monitor.{started}
 use Rattle.board.specs.With.{withMonitor}
 use Rattle.link.specs.Calls.{openedLink}
-use Rattle.viewing.specs.View.{rowOne, bookedOn, allWritten}
+use Rattle.booked.specs.View.{rowOne, bookedOn, allWritten}
 
 -- On the program's clear memory neither call is refused: the booking is open, with the failure monitor started.
 abbrev pub BookingOpens : Type 0

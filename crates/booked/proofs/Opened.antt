@@ -8,8 +8,8 @@ use Rattle.board.specs.Rows.{table, rowOf}
 use Rattle.board.specs.Order.{inRange, isNew, malformed, zeroPast, outOfOrder, noOnes, lineOut, counterOut, monitorOut, transmitterOut}
 use Rattle.link.specs.Refusals.{fitsMemory, first, openNumber, commandNumber}
 use Rattle.link.specs.Calls.{openAnswer, commandAnswer, obeyed, openedLink}
-use Rattle.viewing.specs.View.{rowOne, bookedOn}
-use Rattle.viewing.specs.Promises.{BookingOpens}
+use Rattle.booked.specs.View.{rowOne, bookedOn}
+use Rattle.booked.specs.Promises.{BookingOpens}
 
 opens : openNumber newLink rowOne (replicate 4480 0) (replicate 32 0) ≡ 0
 unfolding openNumber first fitsMemory malformed isNew zeros clearArea inRange rowOf table

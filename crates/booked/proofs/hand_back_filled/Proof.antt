@@ -1,13 +1,13 @@
--- `viewing::view::hand_back_filled` meets its contract: the slots left, handed back from here, make up all sixteen.
+-- `booked::hand_back_filled` meets its contract: the slots left, handed back from here, make up all sixteen.
 use Prim.Native.Nat.{_-_, _≤_}
 use mathlib.Core.Path.{_≡_, refl, _∙_}
 use native.Mathlib.Omega.{arith}
 use lib.ListN.{length}
 use borrow.Author.Needs.{needs}
-use Rattle.viewing.specs.View.{handedFrom, filledBack}
-use Rattle.viewing.proofs.Views.{slot-more, all-back}
-use Rattle.viewing.proofs.view.hand_back_filled.Statement.{statement}
-use Rattle.viewing.proofs.view.hand_back_filled.Tie as tie
+use Rattle.booked.specs.View.{handedFrom, filledBack}
+use Rattle.booked.proofs.Views.{slot-more, all-back}
+use Rattle.booked.proofs.hand_back_filled.Statement.{statement}
+use Rattle.booked.proofs.hand_back_filled.Tie as tie
 
 abbrev Inv-loop : tie.InvT-loop
 Inv-loop pool₀ descriptors₀ l₀ slot₀ pool descriptors l slot =
@@ -38,7 +38,7 @@ loop-again c =
     let t = c .before .before .before .before .before .before .before .before in
     let l = t .before .loop in (
       omega (arith, t .loop-test .taken),
-      slot-more (l .slot) (record { link = l .l; pool = l .pool; descriptors = l .descriptors }) _ _ (t .loop-test .taken) (l .inv .1) (h .ensures),
+      slot-more (l .slot) (record { link = l .l; pool = l .pool; descriptors = l .descriptors }) _ _ (omega (arith, t .loop-test .taken)) (l .inv .1) (h .ensures),
       h .kept .1 .0 ∙ l .inv .2,
       h .kept .1 .1 .0 ∙ l .inv .3,
     )

@@ -17,8 +17,8 @@ use Rattle.link.specs.Calls.{openAnswer, obeyed, commandAnswer, handAnswer}
 use Rattle.input.specs.Receive.{receiveAnswer}
 use Rattle.link.specs.Refusals.{first, fitsMemory, openNumber, commandNumber, readNumber}
 use Rattle.input.specs.Refusals.{receiveNumber}
-use Rattle.viewing.specs.View.{bookedOn, handedFrom, fed, allWritten}
-use Rattle.viewing.specs.Promises.{P2}
+use Rattle.booked.specs.View.{bookedOn, handedFrom, fed, allWritten}
+use Rattle.booked.specs.Promises.{P2}
 
 pub p2 : P2
 unfolding allWritten bookedOn handedFrom fed bitsOf lineBits octetOf packed wholeOctets stepBit reading verdictOf step zeros emptyDescriptors clearArea noOnes zeroPast inRange lineOut counterOut monitorOut transmitterOut outOfOrder isNew malformed table rowOf noted recordOf watchAfter recordsOf erroredUnit closedUnit octetServed serves officeAfter happenings lineReceiver lineMarks lineHappenings boardAfter lineRecords openAnswer obeyed commandAnswer handAnswer receiveAnswer first fitsMemory openNumber commandNumber readNumber receiveNumber

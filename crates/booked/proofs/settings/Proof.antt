@@ -1,13 +1,14 @@
--- `viewing::view::settings` meets its contract.
+-- `booked::settings` meets its contract.
+use mathlib.Core.Path.{refl}
 use borrow.Author.Needs.{needs}
-use Rattle.viewing.proofs.view.settings.Statement.{statement}
-use Rattle.viewing.proofs.view.settings.Tie as tie
+use Rattle.booked.proofs.settings.Statement.{statement}
+use Rattle.booked.proofs.settings.Tie as tie
 
 numbers-requires : tie.Need-numbers-requires
 numbers-requires c κs = search needs
 
 returns : tie.Need-returns
-returns c = rw (c .numbers .ensures)
+returns c = rw (c .numbers .ensures) refl
 
 pub settings-spec : {M : Type 1} → statement M
 settings-spec = tie.close (tie.spec numbers-requires returns)

@@ -1,8 +1,8 @@
--- `viewing::view::feed` meets its contract.
-use Rattle.viewing.proofs.Views.{fed-is}
+-- `booked::feed` meets its contract.
+use Rattle.booked.proofs.Views.{fed-is}
 use borrow.Author.Needs.{needs}
-use Rattle.viewing.proofs.view.feed.Statement.{statement}
-use Rattle.viewing.proofs.view.feed.Tie as tie
+use Rattle.booked.proofs.feed.Statement.{statement}
+use Rattle.booked.proofs.feed.Tie as tie
 
 slice-aggregate-receive : tie.Need-slice-aggregate-receive
 slice-aggregate-receive c = search needs

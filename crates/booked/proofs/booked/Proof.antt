@@ -1,8 +1,8 @@
--- `viewing::view::booked` meets its contract: opened, then command 2.
-use Rattle.viewing.proofs.Views.{booked-is}
+-- `booked::booked` meets its contract: opened, then command 2.
+use Rattle.booked.proofs.Views.{booked-is}
 use borrow.Author.Needs.{needs}
-use Rattle.viewing.proofs.view.booked.Statement.{statement}
-use Rattle.viewing.proofs.view.booked.Tie as tie
+use Rattle.booked.proofs.booked.Statement.{statement}
+use Rattle.booked.proofs.booked.Tie as tie
 
 new-requires : tie.Need-new-requires
 new-requires c κs = search needs

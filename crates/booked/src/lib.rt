@@ -1,4 +1,4 @@
-// The booking that the program views the line through, and what one line octet does to it.
+// The booking that lineview views the line through, and what one line octet does to it.
 use board::Link;
 use board::Settings;
 use board::rows;
@@ -9,7 +9,7 @@ use link::slots;
 ghost use mathlib.Core.Path.{_≡_};
 ghost use Prim.Native.Nat.{_*_, _≤_};
 ghost use lib.ListN.{length};
-ghost use Rattle.viewing.specs.View.{rowOne, bookedOn, filledBack, fed};
+ghost use Rattle.booked.specs.View.{rowOne, bookedOn, filledBack, fed};
 
 // Row 1 with 16 slots, the mask all ones, the switches off.
 fn settings() -> Settings

@@ -1,0 +1,4 @@
+-- The laws of the booking, and its case.
+pub mod Views
+pub mod Opened
+pub mod Cases

@@ -1,0 +1,3 @@
+-- The booking of the program `lineview`.
+pub mod View
+pub mod Promises
