@@ -10,7 +10,8 @@ use Rattle.board.specs.Link.{newLink}
 use Rattle.link.specs.declared.Answer.{Answer}
 use Rattle.link.specs.Calls.{Outcome, openAnswer, commandAnswer, handAnswer}
 use Rattle.input.specs.Receive.{ReceiveOutcome, receiveAnswer}
-use Rattle.booked.specs.View.{Held, rowOne, bookedOn, handedBack, handedFrom, filledBack, fed}
+use Rattle.link.specs.Held.{Held, handedBack}
+use Rattle.booked.specs.View.{rowOne, bookedOn, handedFrom, filledBack, fed}
 
 -- opened, then the failure monitor started
 pub booked-is : (l : Link) (s : Settings) (pool descriptors : List ℕ) (o : Outcome) (r : Answer) → l ≡ newLink → s ≡ rowOne

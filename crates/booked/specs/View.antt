@@ -9,14 +9,9 @@ use Rattle.board.specs.declared.Settings.{Settings}
 use Rattle.board.specs.declared.Link.{Link}
 use Rattle.board.specs.Link.{newLink}
 use Rattle.board.specs.Rows.{rowOf}
-use Rattle.link.specs.Calls.{openAnswer, commandAnswer, handAnswer}
+use Rattle.link.specs.Calls.{openAnswer, commandAnswer}
+use Rattle.link.specs.Held.{Held, handedBack}
 use Rattle.input.specs.Receive.{ReceiveOutcome, receiveAnswer}
-
--- the link and the memory lent to it
-pub record Held : Type 0 where
-  pub link : Link
-  pub pool : List ℕ
-  pub descriptors : List ℕ
 
 abbrev pub rowOne : Settings
 rowOne =
@@ -39,16 +34,12 @@ bookedOn pool descriptors =
     let o = openAnswer newLink rowOne pool descriptors in
     record { link = commandAnswer (o .link) 2 .link; pool = o .pool; descriptors = o .descriptors }
 
-abbrev pub handedBack : Held → ℕ → Held
-handedBack h slot =
-    let o = handAnswer (h .link) (h .pool) (h .descriptors) slot in record { link = o .link; pool = o .pool; descriptors = o .descriptors }
-
 -- so many slots, from one on
 unfoldable pub handedFrom : ℕ → ℕ → Held → Held
 handedFrom slot zero h = h
 handedFrom slot (suc n) h = handedFrom (suc slot) n (handedBack h slot)
 
--- every slot; handing back one that is not filled is refused and changes nothing
+-- every slot
 abbrev pub filledBack : Held → Held
 filledBack h = handedFrom 0 16 h
 

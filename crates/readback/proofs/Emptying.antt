@@ -13,9 +13,8 @@ use Rattle.link.specs.Refusals.{first, readNumber}
 use Rattle.link.specs.Calls.{Outcome, outcome, handAnswer}
 use Rattle.link.proofs.Answers.{done, readable}
 use Rattle.link.proofs.Kept.{refused-hand-back}
-use Rattle.readback.specs.Feeding.{Held}
+use Rattle.link.specs.Held.{Held, handedBack}
 use Rattle.readback.specs.Using.{InUse}
-use Rattle.readback.specs.Turns.{handedBack}
 use Rattle.readback.specs.OneByOne.{slotsOf}
 use Rattle.readback.proofs.Using.{lent}
 

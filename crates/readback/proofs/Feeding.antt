@@ -16,7 +16,8 @@ use Rattle.input.specs.Promises.{written}
 use Rattle.input.proofs.Receiving.{Receivable, receivable}
 use Rattle.input.proofs.Cutting.{answered, board-back}
 use Rattle.input.proofs.Cutting.{wrote as wrote-line}
-use Rattle.readback.specs.Feeding.{Held, board, Feed, answer, fed, wrote, heldAfter, recordsFed, octetsFed, none, more}
+use Rattle.link.specs.Held.{Held}
+use Rattle.readback.specs.Feeding.{board, Feed, answer, fed, wrote, heldAfter, recordsFed, octetsFed, none, more}
 use Rattle.readback.specs.Reading.{FedAsOne}
 use Rattle.readback.proofs.Gathered.{line-held}
 

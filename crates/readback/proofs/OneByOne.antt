@@ -14,7 +14,8 @@ use Rattle.board.specs.declared.Link.{Link}
 use Rattle.link.specs.Calls.{Outcome}
 use Rattle.link.proofs.Kept.{opened}
 use Rattle.transmission.specs.Transmission.{fillsFirst, contents}
-use Rattle.readback.specs.Feeding.{Held, board, Feed, answer, fed}
+use Rattle.link.specs.Held.{Held}
+use Rattle.readback.specs.Feeding.{board, Feed, answer, fed}
 use Rattle.readback.specs.Shelf.{unitOctets, Shelf, shelfAfter}
 use Rattle.readback.specs.Streams.{AllAllowed, closedOut}
 use Rattle.readback.specs.Streams.{none as none-allowed, more as more-allowed}

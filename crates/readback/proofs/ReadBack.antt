@@ -14,7 +14,8 @@ use Rattle.board.specs.declared.Settings.{Settings}
 use Rattle.reception.specs.Line.{boardAfter}
 use Rattle.transmission.specs.Transmission.{Sending, send, fill, linkAfter, waitingBits, fillsFirst, contentsFrom, contents}
 use Rattle.transmission.proofs.Line.{transmitter-line}
-use Rattle.readback.specs.Feeding.{Held, board, Feed, fed, heldAfter, Answered, none, more}
+use Rattle.link.specs.Held.{Held}
+use Rattle.readback.specs.Feeding.{board, Feed, fed, heldAfter, Answered, none, more}
 use Rattle.readback.specs.Shelf.{unitOctets}
 use Rattle.readback.specs.Streams.{booked}
 use Rattle.readback.specs.Promises.{Booking, opening, Sends, line, ahead, ReadBack, lastSent, FillSends, FillReadBack, AllReadBack, AllReadInTurns}

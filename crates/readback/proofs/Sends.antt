@@ -20,7 +20,7 @@ use Rattle.transmission.specs.Transmission.{Sending, send, fill, answer, sentOn
 use Rattle.transmission.specs.Transmission.{none as no-calls, more as one-call}
 use Rattle.transmission.proofs.Calls.{bitsOut, numberOf, put, accepted, is-done}
 use Rattle.transmission.proofs.Line.{few-two, two-kept}
-use Rattle.readback.specs.Feeding.{Held}
+use Rattle.link.specs.Held.{Held}
 use Rattle.readback.specs.Using.{InUse, Fitting, none, more, SendsInUse}
 use Rattle.readback.proofs.Ordered.{orderly, in-range, packed-past}
 

@@ -25,7 +25,8 @@ use Rattle.units.specs.Desk.{Office, Served, served, deskOf, oneMore, unitOf, i
 use Rattle.marks.specs.Writing.{limitsOf}
 use Rattle.reception.specs.Line.{Board, boardAfter, lineHappenings, lineRecords}
 use Rattle.reception.proofs.Octets.{single-octet}
-use Rattle.readback.specs.Feeding.{Held, board}
+use Rattle.link.specs.Held.{Held}
+use Rattle.readback.specs.Feeding.{board}
 use Rattle.readback.specs.Reading.{Stands, Reported}
 use Rattle.readback.proofs.Gathered.{Unclosed, none, aborted, overlong}
 

@@ -21,7 +21,8 @@ use Rattle.reception.proofs.Octets.{ready-kept}
 use Rattle.reception.proofs.Cutting.{board-cut, records-cut}
 use Rattle.input.specs.Receive.{progressOf}
 use Rattle.input.proofs.Receiving.{Receivable, limits, ready}
-use Rattle.readback.specs.Feeding.{Held, board, Feed, heldAfter, recordsFed, octetsFed, Answered, none, more}
+use Rattle.link.specs.Held.{Held}
+use Rattle.readback.specs.Feeding.{board, Feed, heldAfter, recordsFed, octetsFed, Answered, none, more}
 use Rattle.readback.specs.Reading.{ReadBackFed}
 use Rattle.readback.specs.Shelf.{unitOctets}
 use Rattle.readback.proofs.Gathered.{Unclosed, line-allowed, flag-unclosed}

@@ -18,7 +18,8 @@ use Rattle.marks.specs.Writing.{limitsOf}
 use Rattle.reception.specs.Line.{Board, boardAfter, lineHappenings, lineRecords}
 use Rattle.link.specs.Calls.{Outcome, openedLink}
 use Rattle.link.proofs.Kept.{opened}
-use Rattle.readback.specs.Feeding.{Held, board, heldAfter, recordsFed, octetsFed, Answered}
+use Rattle.link.specs.Held.{Held}
+use Rattle.readback.specs.Feeding.{board, heldAfter, recordsFed, octetsFed, Answered}
 use Rattle.readback.specs.Shelf.{Shelf, shelfAfter, shelfRecords}
 use Rattle.readback.specs.Streams.{AllAllowed, none, more, allButLast, closedOut, emptyShelf, StreamRead}
 use Rattle.readback.proofs.Feeding.{fed-as-one}

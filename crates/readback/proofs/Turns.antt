@@ -32,11 +32,12 @@ use Rattle.link.specs.Calls.{Outcome, outcome, openedLink, handAnswer}
 use Rattle.input.specs.Receive.{ReceiveOutcome}
 use Rattle.link.proofs.Kept.{opened}
 use Rattle.input.proofs.Cutting.{answered}
-use Rattle.readback.specs.Feeding.{Held, board, Feed, answer, fed, wrote}
+use Rattle.link.specs.Held.{Held, handedBack}
+use Rattle.readback.specs.Feeding.{board, Feed, answer, fed, wrote}
 use Rattle.readback.specs.Shelf.{Shelf, shelved, shelfAfter, shelfRecords}
 use Rattle.readback.specs.Streams.{AllAllowed, closedOut}
 use Rattle.readback.specs.Streams.{none as none-allowed, more as more-allowed}
-use Rattle.readback.specs.Turns.{Turn, handedBack, turned, octetsTurned, Roomy, none, more, shelfOf, HandsOver, StreamTurns}
+use Rattle.readback.specs.Turns.{Turn, turned, octetsTurned, Roomy, none, more, shelfOf, HandsOver, StreamTurns}
 use Rattle.readback.proofs.Closing.{by-bits}
 use Rattle.readback.proofs.Feeding.{can-receive, same-settings, board-fed, records-wrote}
 use Rattle.readback.proofs.Pieces.{stream-found}

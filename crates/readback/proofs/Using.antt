@@ -26,7 +26,8 @@ use Rattle.input.specs.Receive.{ReceiveOutcome, progressOf, linkOf, received, r
 use Rattle.link.proofs.Answers.{done, openable}
 use Rattle.link.proofs.Kept.{open-number, opened}
 use Rattle.input.proofs.Receiving.{Receivable, receivable, limits, ready}
-use Rattle.readback.specs.Feeding.{Held, board, Feed, answer, fed, heldAfter}
+use Rattle.link.specs.Held.{Held}
+use Rattle.readback.specs.Feeding.{board, Feed, answer, fed, heldAfter}
 use Rattle.readback.specs.Feeding.{none as no-calls, more as one-call}
 use Rattle.readback.specs.Using.{InUse, none, more, OpenInUse, StaysInUse, AnyCutting, StandsRead}
 use Rattle.readback.proofs.Gathered.{Sound, line-held, line-sound, line-allowed}

@@ -3,16 +3,10 @@ use Prim.Native.Nat.{ℕ}
 use mathlib.Core.Path.{_≡_}
 use mathlib.Core.List.{List, [], _∷_, _++_}
 use Rattle.bits.specs.Machine.{run, outs}
-use Rattle.board.specs.declared.Link.{Link}
 use Rattle.reception.specs.Line.{Board}
+use Rattle.link.specs.Held.{Held}
 use Rattle.input.specs.Receive.{ReceiveOutcome, boardOf, receiveAnswer}
 use Rattle.input.specs.Promises.{written}
-
--- a link with the memory lent to it
-pub record Held : Type 0 where
-  pub link : Link
-  pub pool : List ℕ
-  pub descriptors : List ℕ
 
 abbrev pub board : Held → Board
 board h = boardOf (h .link) (h .pool) (h .descriptors)

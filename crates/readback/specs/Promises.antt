@@ -16,7 +16,8 @@ use Rattle.reception.specs.Line.{boardAfter}
 use Rattle.link.specs.Calls.{Outcome, openAnswer, readPart}
 use Rattle.transmission.specs.Transmission.{Sending, send, fill, linkAfter, octetsSent, Accepted, waitingBits, fillsFirst, contentsFrom, contents}
 use Rattle.transmission.specs.Promises.{row1}
-use Rattle.readback.specs.Feeding.{Held, board, Feed, heldAfter, recordsFed, octetsFed}
+use Rattle.link.specs.Held.{Held}
+use Rattle.readback.specs.Feeding.{board, Feed, heldAfter, recordsFed, octetsFed}
 use Rattle.readback.specs.Shelf.{unitOctets, shelfAfter, shelfRecords}
 use Rattle.readback.specs.Reading.{Stands, Reported}
 use Rattle.readback.specs.Streams.{Allowed, AllAllowed, closedOut, booked, emptyShelf}

@@ -11,7 +11,8 @@ use Rattle.memory.specs.Lent.{statusOf, lengthOf, slotOf, filled}
 use Rattle.records.specs.Record.{recordOf}
 use Rattle.units.specs.Desk.{unitOf, isFree}
 use Rattle.reception.specs.Line.{boardAfter, lineRecords}
-use Rattle.readback.specs.Feeding.{Held, board, Feed, heldAfter, recordsFed, octetsFed, Answered}
+use Rattle.link.specs.Held.{Held}
+use Rattle.readback.specs.Feeding.{board, Feed, heldAfter, recordsFed, octetsFed, Answered}
 use Rattle.readback.specs.Shelf.{unitOctets}
 
 -- Calls that are all answered 0 leave the board, and write the records, of one line.

@@ -10,7 +10,8 @@ use Rattle.memory.specs.Lent.{emptyDescriptors}
 use Rattle.board.specs.declared.Settings.{Settings}
 use Rattle.board.specs.declared.Link.{Link}
 use Rattle.link.specs.Calls.{openAnswer}
-use Rattle.readback.specs.Feeding.{Held, Feed, heldAfter, recordsFed, octetsFed, Answered}
+use Rattle.link.specs.Held.{Held}
+use Rattle.readback.specs.Feeding.{Feed, heldAfter, recordsFed, octetsFed, Answered}
 use Rattle.readback.specs.Shelf.{Shelf, shelfAfter, shelfRecords}
 
 -- content that can be sent, and that a receiver with longest unit M allows with its check octets

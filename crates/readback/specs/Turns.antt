@@ -10,19 +10,16 @@ use Rattle.sending.specs.Stream.{streamLine}
 use Rattle.memory.specs.Lent.{statusOf}
 use Rattle.board.specs.declared.Settings.{Settings}
 use Rattle.board.specs.declared.Link.{Link}
-use Rattle.link.specs.Calls.{openAnswer, handAnswer}
-use Rattle.readback.specs.Feeding.{Held, Feed, answer, fed, wrote}
+use Rattle.link.specs.Calls.{openAnswer}
+use Rattle.link.specs.Held.{Held, handedBack}
+use Rattle.readback.specs.Feeding.{Feed, answer, fed, wrote}
 use Rattle.readback.specs.Shelf.{Shelf, shelfAfter, shelfRecords}
 use Rattle.readback.specs.Streams.{AllAllowed, closedOut, booked}
 
--- a receive call, and then the slots that are handed back; handing back an empty slot is refused and changes nothing
+-- a receive call, and then the slots that are handed back
 pub record Turn : Type 0 where
   pub feed : Feed
   pub back : List ℕ
-
-abbrev pub handedBack : Held → ℕ → Held
-handedBack h slot =
-    let o = handAnswer (h .link) (h .pool) (h .descriptors) slot in record { link = o .link; pool = o .pool; descriptors = o .descriptors }
 
 abbrev pub turned : Held → Turn → Held
 turned h t = run handedBack (fed h (t .feed)) (t .back)

@@ -10,7 +10,8 @@ use Rattle.board.specs.Order.{malformed}
 use Rattle.link.specs.Refusals.{fitsMemory, readNumber}
 use Rattle.link.specs.Calls.{openAnswer, readPart}
 use Rattle.transmission.specs.Transmission.{Sending, send, fill, linkAfter, Accepted}
-use Rattle.readback.specs.Feeding.{Held, board, Feed, heldAfter, recordsFed, octetsFed, Answered}
+use Rattle.link.specs.Held.{Held}
+use Rattle.readback.specs.Feeding.{board, Feed, heldAfter, recordsFed, octetsFed, Answered}
 use Rattle.readback.specs.Reading.{Stands}
 use Rattle.readback.specs.Streams.{booked}
 

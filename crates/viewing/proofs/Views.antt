@@ -5,7 +5,8 @@ use mathlib.Core.List.{List, [], _∷_}
 use lib.ListN.{length, getD, drop, drop-of-length-le}
 use lib.Seq.{drop-cons}
 use native.Mathlib.Numerals.{add-one}
-use Rattle.booked.specs.View.{Held, passed}
+use Rattle.link.specs.Held.{Held}
+use Rattle.booked.specs.View.{passed}
 use Rattle.viewing.specs.View.{allPassed}
 
 octet-step : (h : Held) (octet : ℕ) (rest : List ℕ) → allPassed h (octet ∷ rest) ≡ allPassed (passed h octet) rest

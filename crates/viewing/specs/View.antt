@@ -2,7 +2,8 @@
 use Prim.Native.Nat.{ℕ}
 use mathlib.Core.List.{List}
 use Rattle.bits.specs.Machine.{run}
-use Rattle.booked.specs.View.{Held, passed}
+use Rattle.link.specs.Held.{Held}
+use Rattle.booked.specs.View.{passed}
 
 -- the booking after line octets, "one octet at a time"
 unfoldable pub allPassed : Held → List ℕ → Held

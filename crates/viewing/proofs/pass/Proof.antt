@@ -1,8 +1,8 @@
 -- `viewing::pass` meets its contract: the octet is fed with a clear record area.
 use mathlib.Core.Path.{ap}
 use Rattle.input.specs.Receive.{ReceiveOutcome}
-use Rattle.booked.specs.View.{Held}
 use borrow.Author.Needs.{needs}
+use Rattle.link.specs.Held.{Held}
 use Rattle.viewing.proofs.pass.Statement.{statement}
 use Rattle.viewing.proofs.pass.Tie as tie
 
