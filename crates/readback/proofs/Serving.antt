@@ -1,5 +1,5 @@
 -- A line octet that closes one good unit, with the next slot free and the filter off: the unit stands in that slot, and is reported.
-use Prim.Native.Nat.{ℕ, _≤_}
+use Prim.Native.Nat.{ℕ, _%_, _≤_}
 use mathlib.Core.Path.{_≡_, refl, ap, _∙_}
 use mathlib.Core.Bool.{Bool, true, false}
 use mathlib.Core.List.{List, [], _∷_, _++_, map}
@@ -118,11 +118,12 @@ module _ (s : Settings) (b : Board) (last : ℕ) (u : List Bool) (fs : List Find
   abbrev seen : Watch
   seen = b .watch
 
-  pub reported : (records earlier : List ℕ) → records ≡ earlier ++ lineRecords s b (last ∷ []) → Reported records os
+  pub reported : (records earlier : List ℕ) → length earlier % 16 ≡ 0 → records ≡ earlier ++ lineRecords s b (last ∷ []) → Reported records os
   unfolding lineRecords recordsOf
-  reported records earlier e =
+  reported records earlier whole e =
       record {
         earlier = earlier;
+        whole = whole;
         later = recordsOf (limitsOf s) (watched (limitsOf s) seen happening) later;
         good = oneMore (b .office .desk .counts .good);
         count = noted (limitsOf s) seen happening .watch .monitor .count;

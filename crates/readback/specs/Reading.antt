@@ -1,5 +1,5 @@
 -- What is promised of a line that is fed to a link. The proofs are in proofs/Feeding.antt and proofs/Standing.antt.
-use Prim.Native.Nat.{ℕ, _+_, _≤_}
+use Prim.Native.Nat.{ℕ, _+_, _%_, _≤_}
 use mathlib.Core.Path.{_≡_}
 use mathlib.Core.Bool.{Bool, true, false}
 use mathlib.Core.List.{List, [], _∷_, _++_}
@@ -22,15 +22,16 @@ FedAsOne =
     → (board (heldAfter h fs) ≡ boardAfter (h .link .settings) (board h) (octetsFed fs))
     × (recordsFed h fs ≡ lineRecords (h .link .settings) (board h) (octetsFed fs))
 
--- "the unit stands in the slot with status 0, the right length, the same octets and zeros after them"
+-- a unit stands in a slot: status 0, its length, its octets and zeros after them
 pub record Stands (h : Held) (slot : ℕ) (unit : List ℕ) : Type 0 where
   pub status : statusOf (h .descriptors) slot ≡ 0
   pub size : lengthOf (h .descriptors) slot ≡ length unit
   pub octets : slotOf (h .pool) slot ≡ filled unit
 
--- "and the record says kind 0": it is one of those written
+-- a record of kind 0 for it is one of those written, behind whole records
 pub record Reported (records unit : List ℕ) : Type 0 where
   pub earlier : List ℕ
+  pub whole : length earlier % 16 ≡ 0
   pub later : List ℕ
   pub good : ℕ
   pub count : ℕ

@@ -29,7 +29,7 @@ unfoldable pub octetsTurned : List Turn → List ℕ
 octetsTurned [] = []
 octetsTurned (t ∷ ts) = t .feed .octets ++ octetsTurned ts
 
--- "slots handed back between the calls": each call is answered 0, finds every slot empty, and writes no more records than there are slots
+-- slots are handed back between the calls, so that they suffice: each call is answered 0, finds every slot empty, and writes no more records than there are slots
 pub data Roomy : Held → List Turn → Type 0 where
   none : {h : Held} → Roomy h []
   more : {h : Held} {t : Turn} {ts : List Turn} → answer h (t .feed) .number ≡ 0
