@@ -72,7 +72,7 @@ fn end_flag(m: u16, line: Line, area: &mut [u8; 279]) -> Step
 }
 
 // One bit of the line.
-pub fn step_bit(m: u16, line: Line, area: &mut [u8; 279], bit: bool) -> Step
+fn step_bit(m: u16, line: Line, area: &mut [u8; 279], bit: bool) -> Step
     requires { ⌜ m ≤ 278 ⌝ }
     requires { ⌜ wellFormed m line (now area) ⌝ }
     ensures { λ r. ⌜ Stepped m (stepBit m (decode line (now (area .entry))) bit) r (now (area .exit)) ⌝ }

@@ -74,7 +74,7 @@ pub fn mark_empty(descriptors: &mut [u16], k: u16)
 }
 
 // Puts the first `count` octets of a gathered unit into a slot: the rest of the slot zero, the length, the status.
-pub fn store(
+fn store(
     pool: &mut [u8],
     descriptors: &mut [u16],
     slot: u16,

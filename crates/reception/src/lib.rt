@@ -17,7 +17,7 @@ pub struct Passed {
 }
 
 // One line octet: its bits up to each finding, what that does, and the octet's end.
-pub fn take_octet(
+fn take_octet(
     s: Settings,
     line: Line,
     p: Progress,

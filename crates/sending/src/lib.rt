@@ -81,7 +81,7 @@ fn put_stuffed(out: &mut [u8], t: Tx, bit: bool) -> Tx
 }
 
 // One octet of a unit, lowest bit first.
-pub fn put_octet(out: &mut [u8], t: Tx, octet: u8) -> Tx
+fn put_octet(out: &mut [u8], t: Tx, octet: u8) -> Tx
     requires { ⌜ Ready t × Room t (stuffed (t .ones) (bitsOf 8 octet)) (now out) ⌝ }
     ensures { λ r. ⌜ Puts (now (out .entry)) t (stuffed (t .ones) (bitsOf 8 octet)) (onesOver (t .ones) (bitsOf 8 octet)) r (now (out .exit)) ⌝ }
 {

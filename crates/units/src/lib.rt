@@ -153,7 +153,7 @@ fn bare_of(kind: u8, count: u16, first: [u8; 5], good: u16, bits: u16) -> Happen
 }
 
 // A good unit of `count` octets at the front of the area.
-pub fn good_unit(
+fn good_unit(
     s: Settings,
     desk: Desk,
     area: &[u8; 279],
