@@ -1,4 +1,4 @@
 -- The laws of the link's value.
 pub mod Past
-pub mod Orders
+pub mod Ranges
 pub mod NewLink

@@ -11,9 +11,9 @@ use Rattle.monitor.specs.declared.Mode.{Mode}
 use Rattle.monitor.specs.declared.Mode.the-variants.{Off, Failure, Alignment, Idle}
 use Rattle.board.specs.declared.Link.{Link}
 use Rattle.board.specs.Link.{newLink, clearArea}
-use Rattle.board.specs.Order.{isOff, numbers, arraysZero, isNew, malformed}
+use Rattle.board.specs.Malformed.{isOff, numbers, arraysZero, isNew, malformed}
 use Rattle.board.specs.Promises.{Sized, NewExactly}
-use Rattle.board.proofs.Orders.{both, when-closed}
+use Rattle.board.proofs.Ranges.{both, when-closed}
 
 zeros-are : (xs : List ℕ) → zeros xs ≡ true → xs ≡ replicate (length xs) 0
 unfolding zeros

@@ -15,7 +15,7 @@ use Rattle.bits.proofs.Digits.{length-bitsOf, bits-more}
 use Rattle.bits.proofs.Lines.{line-drop}
 use Rattle.bits.proofs.Packing.{repack}
 use Rattle.bits.proofs.Gathering.{zero-in}
-use Rattle.board.specs.Order.{noOnes, zeroPast}
+use Rattle.board.specs.Malformed.{noOnes, zeroPast}
 
 both-assoc : (a b c : Bool) → (a && b) && c ≡ a && (b && c)
 both-assoc true b c = refl

@@ -1,6 +1,6 @@
 -- The link as a value.
 pub mod Link
 pub mod Rows
-pub mod Order
+pub mod Malformed
 pub mod With
 pub mod Promises

@@ -6,7 +6,7 @@ use mathlib.Core.Logic.{_↔_}
 use lib.ListN.{length}
 use Rattle.board.specs.declared.Link.{Link}
 use Rattle.board.specs.Link.{newLink}
-use Rattle.board.specs.Order.{malformed}
+use Rattle.board.specs.Malformed.{malformed}
 
 -- the lengths that the types of a link's arrays fix
 pub record Sized (l : Link) : Type 0 where

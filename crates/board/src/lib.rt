@@ -3,8 +3,8 @@ use filter::Memory;
 use framing::Line;
 use monitor::Monitor;
 
-pub mod order;
 pub mod rows;
+pub mod wellformed;
 
 ghost use mathlib.Core.Path.{_≡_};
 ghost use Rattle.board.specs.Link.{newLink, newLine, clearArea, newSettings, newTransmitter};

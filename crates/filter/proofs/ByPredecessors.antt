@@ -7,7 +7,7 @@ use borrow.Author.Tests.{not-true}
 use Rattle.filter.specs.declared.Kind.{Kind}
 use Rattle.filter.specs.declared.Kind.the-variants.{FillIn, LinkStatus, Message}
 use Rattle.filter.specs.Unit.{kindOf, alike}
-use Rattle.filter.specs.Memory.{drops, Meeting, good, command-4, memoryAfter}
+use Rattle.filter.specs.Memory.{drops, FilterInput, good, command-4, memoryAfter}
 use Rattle.filter.specs.Predecessors.{isMessage, needs, row, droppedAfter, none, more, HadItsLike}
 use Rattle.filter.specs.Promises.{DroppedExactly, DroppedHadItsLike, LikeHandedOver}
 use Rattle.filter.proofs.Likeness.{both, alike-transitive}
@@ -15,7 +15,7 @@ use Rattle.filter.proofs.Settling.{when-over, dropped-if}
 use Rattle.filter.proofs.Held.{tells, drops-as}
 
 -- the two filters drop the same
-drops-after : (on : Bool) (mask : List ℕ) (hs : List Meeting) (u : List ℕ)
+drops-after : (on : Bool) (mask : List ℕ) (hs : List FilterInput) (u : List ℕ)
     → drops on mask (memoryAfter on mask (reverse hs)) u ≡ on && droppedAfter mask hs u
 drops-after true mask hs u = drops-as mask hs (memoryAfter true mask (reverse hs)) (tells mask hs) u
 drops-after false mask hs u = refl
@@ -29,7 +29,7 @@ dropped-exactly on mask hs u free =
 -- ---- each dropped unit had its like handed over
 module _ (mask : List ℕ) where
   -- a unit that is dropped has at least one like it directly before
-  in-row : (hs : List Meeting) (u : List ℕ) → droppedAfter mask hs u ≡ true → (k : ℕ) × (row mask hs (suc k) u ≡ true)
+  in-row : (hs : List FilterInput) (u : List ℕ) → droppedAfter mask hs u ≡ true → (k : ℕ) × (row mask hs (suc k) u ≡ true)
   in-row hs u = go (kindOf u)
     where
       go : (x : Kind) → needs x (λ j. row mask hs j u) ≡ true → (k : ℕ) × (row mask hs (suc k) u ≡ true)
@@ -37,7 +37,7 @@ module _ (mask : List ℕ) where
       go LinkStatus r = (1, r)
       go Message r = (0, cc)
 
-  module _ (hs : List Meeting) (u v : List ℕ) (n : isMessage (kindOf v) ≡ false) (a : alike mask v u ≡ true) where
+  module _ (hs : List FilterInput) (u v : List ℕ) (n : isMessage (kindOf v) ≡ false) (a : alike mask v u ≡ true) where
     -- the unit before was handed over: it is the like
     before-over : droppedAfter mask hs v ≡ false → HadItsLike mask (good v true ∷ hs) u
     before-over q = record { like = v; between = []; older = hs; split = refl; not-dropped = q; is-like = a; unbroken = none }
@@ -48,10 +48,10 @@ module _ (mask : List ℕ) where
       like = h .like;
       between = good v free ∷ h .between;
       older = h .older;
-      split = ap {B = List Meeting} (λ l. good v free ∷ l) (h .split);
+      split = ap {B = List FilterInput} (λ l. good v free ∷ l) (h .split);
       not-dropped = h .not-dropped;
       is-like = alike-transitive mask (h .like) v u (h .is-like) a;
-      unbroken = more n (ap (λ (l : List Meeting). droppedAfter mask l v || free) (sym (h .split)) ∙ ap (λ (b : Bool). b || free) q) (h .unbroken);
+      unbroken = more n (ap (λ (l : List FilterInput). droppedAfter mask l v || free) (sym (h .split)) ∙ ap (λ (b : Bool). b || free) q) (h .unbroken);
     }
 
     before : (free : Bool) → droppedAfter mask hs v || free ≡ true → ((k : ℕ) → row mask hs (suc k) v ≡ true → HadItsLike mask hs v)
@@ -65,7 +65,7 @@ module _ (mask : List ℕ) where
         go false q true d = before-over q
         go false q false d = absurd (false≢true d)
 
-  had-in-row : (hs : List Meeting) (k : ℕ) (u : List ℕ) → row mask hs (suc k) u ≡ true → HadItsLike mask hs u
+  had-in-row : (hs : List FilterInput) (k : ℕ) (u : List ℕ) → row mask hs (suc k) u ≡ true → HadItsLike mask hs u
   unfolding row
   had-in-row [] k u r = absurd (false≢true r)
   had-in-row (good v free ∷ hs) k u r =

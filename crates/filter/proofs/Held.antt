@@ -10,7 +10,7 @@ use Rattle.filter.specs.declared.Kind.the-variants.{FillIn, LinkStatus, 
 use Rattle.filter.specs.declared.Memory.{Memory}
 use Rattle.filter.specs.declared.Settled.{Settled}
 use Rattle.filter.specs.Unit.{kindOf, masked, same, alike}
-use Rattle.filter.specs.Memory.{emptyMemory, holdsLike, repeats, drops, forgets, remembers, settled, Meeting, good, command-4, memoryAfter}
+use Rattle.filter.specs.Memory.{emptyMemory, holdsLike, repeats, drops, forgets, remembers, settled, FilterInput, good, command-4, memoryAfter}
 use Rattle.filter.specs.Predecessors.{isMessage, needs, row, droppedAfter}
 use Rattle.filter.proofs.UnitKinds.{not-none, lengths-differ}
 use Rattle.filter.proofs.Likeness.{both, equal-parts, alike-parts}
@@ -24,13 +24,13 @@ message-is Message h = refl
 
 module _ (mask : List ℕ) where
   -- ---- the row of like units before
-  row-none : (hs : List Meeting) (u : List ℕ) → row mask hs zero u ≡ true
+  row-none : (hs : List FilterInput) (u : List ℕ) → row mask hs zero u ≡ true
   unfolding row
   row-none [] u = refl
   row-none (good v free ∷ hs) u = refl
   row-none (command-4 ∷ hs) u = refl
 
-  module _ (hs : List Meeting) (v : List ℕ) where
+  module _ (hs : List FilterInput) (v : List ℕ) where
     row-message : (free : Bool) → isMessage (kindOf v) ≡ true → (k : ℕ) (u : List ℕ) → row mask (good v free ∷ hs) (suc k) u ≡ false
     unfolding row
     row-message free e k u = rw e
@@ -50,12 +50,12 @@ module _ (mask : List ℕ) where
         row-kept free e q 0 u ∙ ap (λ (b : Bool). alike mask v u && b) (row-none hs u) ∙ and-true (alike mask v u)
 
   -- ---- what a memory holds after a history
-  pub record Tells (hs : List Meeting) (m : Memory) : Type 0 where
+  pub record Tells (hs : List FilterInput) (m : Memory) : Type 0 where
     pub one : (u : List ℕ) → isMessage (kindOf u) ≡ false → holdsLike mask m u ≡ row mask hs 1 u
     pub two : (u : List ℕ) → kindOf u ≡ LinkStatus → holdsLike mask m u && m .alike ≡ row mask hs 2 u
 
   -- with such a memory the two filters drop the same
-  pub drops-as : (hs : List Meeting) (m : Memory) → Tells hs m → (u : List ℕ) → drops true mask m u ≡ droppedAfter mask hs u
+  pub drops-as : (hs : List FilterInput) (m : Memory) → Tells hs m → (u : List ℕ) → drops true mask m u ≡ droppedAfter mask hs u
   drops-as hs m t u = go (kindOf u) refl
     where
       go : (k : Kind) → kindOf u ≡ k → repeats k (holdsLike mask m u) (m .alike) ≡ needs k (λ j. row mask hs j u)
@@ -64,7 +64,7 @@ module _ (mask : List ℕ) where
       go Message e = refl
 
   -- ---- the empty memory
-  empty-tells : (hs : List Meeting) → ((k : ℕ) (u : List ℕ) → row mask hs (suc k) u ≡ false) → Tells hs emptyMemory
+  empty-tells : (hs : List FilterInput) → ((k : ℕ) (u : List ℕ) → row mask hs (suc k) u ≡ false) → Tells hs emptyMemory
   empty-tells hs r = record {
     one = λ u h. nothing u h ∙ sym (r 0 u);
     two = λ u e. ap (λ (b : Bool). b && false) (nothing u (ap isMessage e)) ∙ sym (r 1 u);
@@ -78,7 +78,7 @@ module _ (mask : List ℕ) where
   abbrev unit : Memory → List ℕ → Memory
   unit m v = record { length = length v; octets = masked mask v; alike = holdsLike mask m v }
 
-  module _ (hs : List Meeting) (m : Memory) (v : List ℕ) (t : Tells hs m) (n : isMessage (kindOf v) ≡ false) where
+  module _ (hs : List FilterInput) (m : Memory) (v : List ℕ) (t : Tells hs m) (n : isMessage (kindOf v) ≡ false) where
     -- a dropped unit leaves the memory, which holds its like
     module _ (q : droppedAfter mask hs v ≡ true) where
       repeated : repeats (kindOf v) (holdsLike mask m v) (m .alike) ≡ true
@@ -127,7 +127,7 @@ module _ (mask : List ℕ) where
               ∙ sym (row-kept hs v true n d 1 u);
         }
 
-  -- ---- each meeting
+  -- ---- each input
   module _ (m : Memory) (v : List ℕ) where
     message-empties : isMessage (kindOf v) ≡ true → (free : Bool) → settled true mask m v free .memory ≡ emptyMemory
     message-empties n free = go free
@@ -150,7 +150,7 @@ module _ (mask : List ℕ) where
         go LinkStatus e = refl
         go Message e = cc
 
-  good-tells : (hs : List Meeting) (m : Memory) (v : List ℕ) (free : Bool) → Tells hs m → Tells (good v free ∷ hs) (settled true mask m v free .memory)
+  good-tells : (hs : List FilterInput) (m : Memory) (v : List ℕ) (free : Bool) → Tells hs m → Tells (good v free ∷ hs) (settled true mask m v free .memory)
   good-tells hs m v free t = go (isMessage (kindOf v)) refl (droppedAfter mask hs v) refl free
     where
       to : (free : Bool) {r : Settled} → settled true mask m v free ≡ r → Tells (good v free ∷ hs) (r .memory)
@@ -166,7 +166,7 @@ module _ (mask : List ℕ) where
           to true (when-over true mask m v (drops-as hs m t v ∙ q)) (subst (Tells (good v true ∷ hs)) (sym (over-remembers m v n)) (over-tells hs m v t n q))
       go false n false q false = to false (when-lost true mask m v (drops-as hs m t v ∙ q)) (empty-tells (good v false ∷ hs) (row-lost hs v q))
 
-  pub tells : (hs : List Meeting) → Tells hs (memoryAfter true mask (reverse hs))
+  pub tells : (hs : List FilterInput) → Tells hs (memoryAfter true mask (reverse hs))
   unfolding row memoryAfter
   tells [] = empty-tells [] (λ k u. refl)
   tells (good v free ∷ hs) =

@@ -57,22 +57,22 @@ settled on mask m u free =
     pick (drops on mask m u) (record { fate = Dropped; memory = m })
     (pick free (record { fate = HandedOver; memory = remembers on mask m u }) (record { fate = Lost; memory = emptyMemory }))
 
--- What the filter meets from opening on: a good unit with whether its slot was free, and command 4. Units with errors are set aside.
-pub data Meeting : Type 0 where
-  good : List ℕ → Bool → Meeting
-  command-4 : Meeting
+-- What the filteris given from opening on: a good unit with whether its slot was free, and command 4. Units with errors are set aside.
+pub data FilterInput : Type 0 where
+  good : List ℕ → Bool → FilterInput
+  command-4 : FilterInput
 
-abbrev pub after : Bool → List ℕ → Memory → Meeting → Memory
-after on mask m (good u free) = settled on mask m u free .memory
-after on mask m command-4 = emptyMemory
+abbrev pub memoryNext : Bool → List ℕ → Memory → FilterInput → Memory
+memoryNext on mask m (good u free) = settled on mask m u free .memory
+memoryNext on mask m command-4 = emptyMemory
 
-abbrev pub fateOf : Bool → List ℕ → Memory → Meeting → List Fate
+abbrev pub fateOf : Bool → List ℕ → Memory → FilterInput → List Fate
 fateOf on mask m (good u free) = settled on mask m u free .fate ∷ []
 fateOf on mask m command-4 = []
 
 -- the memory after a history, oldest first, and the fates of its good units
-unfoldable pub memoryAfter : Bool → List ℕ → List Meeting → Memory
-memoryAfter on mask = run (after on mask) emptyMemory
+unfoldable pub memoryAfter : Bool → List ℕ → List FilterInput → Memory
+memoryAfter on mask = run (memoryNext on mask) emptyMemory
 
-unfoldable pub fates : Bool → List ℕ → List Meeting → List Fate
-fates on mask = outs (after on mask) (fateOf on mask) emptyMemory
+unfoldable pub fates : Bool → List ℕ → List FilterInput → List Fate
+fates on mask = outs (memoryNext on mask) (fateOf on mask) emptyMemory

@@ -1,5 +1,5 @@
 -- What is promised of the repeat filter. The proofs are in proofs/ByPredecessors.antt, proofs/Histories.antt and proofs/Cases.antt.
--- A meeting is a good unit, with whether its slot was free, or a command 4; a history is the meetings since opening.
+-- An input is a good unit, with whether its slot was free, or a command 4; a history is the inputs since opening.
 use Prim.Native.Nat.{ℕ}
 use mathlib.Core.Path.{_≡_}
 use mathlib.Core.Logic.{_↔_}
@@ -8,29 +8,29 @@ use mathlib.Core.List.{List, [], _∷_, reverse}
 use Rattle.filter.specs.declared.Fate.{Fate}
 use Rattle.filter.specs.declared.Fate.the-variants.{HandedOver, Dropped, Lost}
 use Rattle.filter.specs.declared.Memory.{Memory}
-use Rattle.filter.specs.Memory.{emptyMemory, settled, Meeting, good, memoryAfter, fates}
+use Rattle.filter.specs.Memory.{emptyMemory, settled, FilterInput, good, memoryAfter, fates}
 use Rattle.filter.specs.Predecessors.{droppedAfter, HadItsLike}
 
 -- ---- The filter by its memory and by the predecessors
--- what the filter with its memory makes of a good unit u that comes after a history, which has its last meeting first
-abbrev pub fateAfter : Bool → List ℕ → List Meeting → List ℕ → Bool → Fate
+-- what the filter with its memory makes of a good unit u that comes after a history, which has its last input first
+abbrev pub fateAfter : Bool → List ℕ → List FilterInput → List ℕ → Bool → Fate
 fateAfter on mask hs u free = settled on mask (memoryAfter on mask (reverse hs)) u free .fate
 
 -- A unit is dropped exactly if the filter is on and the units directly before it are like it: one for a fill-in unit, two for a link
 -- status unit, none of them lost.
 abbrev pub DroppedExactly : Type 0
 DroppedExactly =
-    (on : Bool) (mask : List ℕ) (hs : List Meeting) (u : List ℕ) (free : Bool)
+    (on : Bool) (mask : List ℕ) (hs : List FilterInput) (u : List ℕ) (free : Bool)
     → (fateAfter on mask hs u free ≡ Dropped) ↔ (on && droppedAfter mask hs u ≡ true)
 
 -- Each dropped unit has an earlier one like it that found its slot free, with no message, lost unit or command 4 since,
 abbrev pub DroppedHadItsLike : Type 0
-DroppedHadItsLike = (mask : List ℕ) (hs : List Meeting) (u : List ℕ) → droppedAfter mask hs u ≡ true → HadItsLike mask hs u
+DroppedHadItsLike = (mask : List ℕ) (hs : List FilterInput) (u : List ℕ) → droppedAfter mask hs u ≡ true → HadItsLike mask hs u
 
 -- and that one was handed over.
 abbrev pub LikeHandedOver : Type 0
 LikeHandedOver =
-    (mask : List ℕ) (hs : List Meeting) (u : List ℕ) (h : HadItsLike mask hs u)
+    (mask : List ℕ) (hs : List FilterInput) (u : List ℕ) (h : HadItsLike mask hs u)
     → fateAfter true mask (h .older) (h .like) true ≡ HandedOver
 
 -- ---- The filter off
@@ -40,7 +40,7 @@ OffDropsNothing = (mask : List ℕ) (m : Memory) (u : List ℕ) (free : Bool) �
 
 -- "With the filter off the memory stays empty."
 abbrev pub OffStaysEmpty : Type 0
-OffStaysEmpty = (mask : List ℕ) (hs : List Meeting) → memoryAfter false mask hs ≡ emptyMemory
+OffStaysEmpty = (mask : List ℕ) (hs : List FilterInput) → memoryAfter false mask hs ≡ emptyMemory
 
 -- ---- Proved cases, on whole units with their check octets
 -- the mask all ones
@@ -48,19 +48,19 @@ abbrev pub allOnes : List ℕ
 allOnes = 255 ∷ 255 ∷ 255 ∷ 255 ∷ 255 ∷ []
 
 -- a fill-in unit and a link status unit: numbers, length indicator, status, check octets
-abbrev pub fillIn : List ℕ
-fillIn = 0x80 ∷ 0x80 ∷ 0 ∷ 0xec ∷ 0x46 ∷ []
+abbrev pub fillInUnit : List ℕ
+fillInUnit = 0x80 ∷ 0x80 ∷ 0 ∷ 0xec ∷ 0x46 ∷ []
 
-abbrev pub status : List ℕ
-status = 0x80 ∷ 0x80 ∷ 1 ∷ 0 ∷ 0x84 ∷ 0xc4 ∷ []
+abbrev pub statusUnit : List ℕ
+statusUnit = 0x80 ∷ 0x80 ∷ 1 ∷ 0 ∷ 0x84 ∷ 0xc4 ∷ []
 
 -- "P12 equal fill-in units: over, dropped, dropped; equal status units: over, over, dropped."
 abbrev pub P12FillIn : Type 0
-P12FillIn = fates true allOnes (good fillIn true ∷ good fillIn true ∷ good fillIn true ∷ []) ≡ HandedOver ∷ Dropped ∷ Dropped ∷ []
+P12FillIn = fates true allOnes (good fillInUnit true ∷ good fillInUnit true ∷ good fillInUnit true ∷ []) ≡ HandedOver ∷ Dropped ∷ Dropped ∷ []
 
 abbrev pub P12Status : Type 0
-P12Status = fates true allOnes (good status true ∷ good status true ∷ good status true ∷ []) ≡ HandedOver ∷ HandedOver ∷ Dropped ∷ []
+P12Status = fates true allOnes (good statusUnit true ∷ good statusUnit true ∷ good statusUnit true ∷ []) ≡ HandedOver ∷ HandedOver ∷ Dropped ∷ []
 
 -- "P13 fill-in lost, slot freed, same again twice: lost, over, dropped."
 abbrev pub P13 : Type 0
-P13 = fates true allOnes (good fillIn false ∷ good fillIn true ∷ good fillIn true ∷ []) ≡ Lost ∷ HandedOver ∷ Dropped ∷ []
+P13 = fates true allOnes (good fillInUnit false ∷ good fillInUnit true ∷ good fillInUnit true ∷ []) ≡ Lost ∷ HandedOver ∷ Dropped ∷ []

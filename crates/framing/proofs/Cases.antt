@@ -8,7 +8,7 @@ use Rattle.bits.specs.Octets.{bitsOf, lineBits}
 use Rattle.bits.specs.Format.{basic}
 use Rattle.framing.specs.declared.Verdict.{Verdict}
 use Rattle.framing.specs.declared.Verdict.the-variants.{Short, NotWhole, CheckWrong, Good}
-use Rattle.framing.specs.Delimitation.{Finding, closed, abort, long, newReceiver, flagged, stepBit, after, findings}
+use Rattle.framing.specs.Delimitation.{Finding, closed, abort, long, newReceiver, flagged, stepBit, receiverAfter, findings}
 use Rattle.framing.specs.Verdict.{verdictOf}
 
 -- what a new receiver with M = 278 finds in line octets
@@ -23,7 +23,7 @@ abbrev between : List Bool → List Bool
 between bs = bitsOf 8 0x7e ++ (bs ++ bitsOf 8 0x7e)
 
 -- P3: a fresh link, 3F: no flag, so the receiver hunts on
-pub p3 : (found (0x3f ∷ []) ≡ []) × (after 278 newReceiver (lineBits (0x3f ∷ [])) .hunting ≡ true)
+pub p3 : (found (0x3f ∷ []) ≡ []) × (receiverAfter 278 newReceiver (lineBits (0x3f ∷ [])) .hunting ≡ true)
 unfolding stepBit lineBits bitsOf
 p3 = (refl, refl)
 
@@ -48,6 +48,6 @@ pub p7-closes : findings 278 newReceiver (between (zeros 2224)) ≡ closed (zero
 unfolding stepBit bitsOf
 p7-closes = refl
 
-pub p7-long : (findings 278 newReceiver (between (zeros 2225)) ≡ long ∷ []) × (after 278 newReceiver (between (zeros 2225)) ≡ flagged)
+pub p7-long : (findings 278 newReceiver (between (zeros 2225)) ≡ long ∷ []) × (receiverAfter 278 newReceiver (between (zeros 2225)) ≡ flagged)
 unfolding stepBit bitsOf
 p7-long = (refl, refl)

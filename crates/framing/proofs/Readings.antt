@@ -10,7 +10,7 @@ use Rattle.framing.specs.declared.Line.{Line}
 use Rattle.framing.specs.declared.Found.{Found}
 use Rattle.framing.specs.declared.Found.the-variants.{Nothing, Closed, Abort, Long}
 use Rattle.framing.specs.declared.Step.{Step}
-use Rattle.framing.specs.Delimitation.{Receiver, Finding, closed, abort, long, stepBit, next, finds, after, findings, Reading, readOn, reading}
+use Rattle.framing.specs.Delimitation.{Receiver, Finding, closed, abort, long, stepBit, next, finds, receiverAfter, findings, Reading, readOn, reading}
 use Rattle.framing.specs.Representation.{decode, Holds, wellFormed, shows, isFound, standing, Stepped, FedTo}
 use Rattle.framing.specs.Promises.{ReadingAfter, ReadingFindings}
 
@@ -20,8 +20,8 @@ unfolding reading
 reading-after M [] s = refl
 reading-after M (b ∷ bs) s = go (finds M s b) (reading-after M bs (next M s b))
   where
-    go : (fs : List Finding) → after M (reading M (next M s b) bs .state) (reading M (next M s b) bs .rest) ≡ after M (next M s b) bs
-        → after M (readOn fs (next M s b) bs (reading M (next M s b) bs) .state) (readOn fs (next M s b) bs (reading M (next M s b) bs) .rest) ≡ after M (next M s b) bs
+    go : (fs : List Finding) → receiverAfter M (reading M (next M s b) bs .state) (reading M (next M s b) bs .rest) ≡ receiverAfter M (next M s b) bs
+        → receiverAfter M (readOn fs (next M s b) bs (reading M (next M s b) bs) .state) (readOn fs (next M s b) bs (reading M (next M s b) bs) .rest) ≡ receiverAfter M (next M s b) bs
     go [] ih = ih
     go (f ∷ fs) ih = refl
 
@@ -62,18 +62,18 @@ module _ (M : ℕ) (goal : Reading) (cur : Line) (area : List ℕ) where
     s : Receiver
     s = decode cur area
 
-    pub quiet-turn : isFound (r .found) ≡ false → (reading M (decode (r .line) area′) bs ≡ goal) × wellFormed M (r .line) area′
+    pub quiet-round : isFound (r .found) ≡ false → (reading M (decode (r .line) area′) bs ≡ goal) × wellFormed M (r .line) area′
     unfolding reading s
-    quiet-turn q =
+    quiet-round q =
         let k : isFound (shows (finds M s b)) ≡ false = ap isFound (sym (st .found)) ∙ q in (
           ap (λ (x : Receiver). reading M x bs) (st .state) ∙ sym (quiet (finds M s b) (next M s b) bs (reading M (next M s b) bs) k) ∙ e,
           subst (λ (n : ℕ). Holds M (r .line) n area′) (as-gathered (r .found) (r .line .bits) q) (st .holds),
         )
 
-    pub loud-turn : isFound (r .found) ≡ true → (octet left : ℕ) → bitsOf left octet ≡ bs → left ≤ 8
+    pub loud-round : isFound (r .found) ≡ true → (octet left : ℕ) → bitsOf left octet ≡ bs → left ≤ 8
         → FedTo M goal (record { step = r; octet = octet; left = left }) area′
     unfolding reading s
-    loud-turn q octet left o f =
+    loud-round q octet left o f =
         let k : isFound (shows (finds M s b)) ≡ true = ap isFound (sym (st .found)) ∙ q in
         let g : goal ≡ record { state = next M s b; found = finds M s b; rest = bs } = sym e ∙ loud (finds M s b) (next M s b) bs (reading M (next M s b) bs) k in
         rw g (record { step = st; rest = o; few = f })

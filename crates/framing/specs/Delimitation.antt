@@ -63,8 +63,8 @@ abbrev pub finds : ℕ → Receiver → Bool → List Finding
 finds M s b = stepBit M s b .1
 
 -- the receiver after bits, and what it finds on the way
-abbrev pub after : ℕ → Receiver → List Bool → Receiver
-after M = run (next M)
+abbrev pub receiverAfter : ℕ → Receiver → List Bool → Receiver
+receiverAfter M = run (next M)
 
 abbrev pub findings : ℕ → Receiver → List Bool → List Finding
 findings M = outs (next M) (finds M)

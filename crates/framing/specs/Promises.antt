@@ -6,7 +6,7 @@ use Prim.Native.Nat.{ℕ, _+_, _*_, _≤_}
 use lib.ListN.{length}
 use Rattle.bits.specs.Octets.{bitsOf}
 use Rattle.framing.specs.declared.Line.{Line}
-use Rattle.framing.specs.Delimitation.{Receiver, after, findings, reading}
+use Rattle.framing.specs.Delimitation.{Receiver, receiverAfter, findings, reading}
 use Rattle.framing.specs.Representation.{decode, encode, encodeArea, wellFormed}
 
 -- With M at least 7 one line octet brings at most two findings, whatever the receiver's state.
@@ -15,7 +15,7 @@ TwoFindings = (M : ℕ) (s : Receiver) (octet : ℕ) → 7 ≤ M → length (fin
 
 -- Reading up to a finding, again and again, gives the receiver and the findings of reading all at once.
 abbrev pub ReadingAfter : Type 0
-ReadingAfter = (M : ℕ) (bs : List Bool) (s : Receiver) → after M (reading M s bs .state) (reading M s bs .rest) ≡ after M s bs
+ReadingAfter = (M : ℕ) (bs : List Bool) (s : Receiver) → receiverAfter M (reading M s bs .state) (reading M s bs .rest) ≡ receiverAfter M s bs
 
 abbrev pub ReadingFindings : Type 0
 ReadingFindings =

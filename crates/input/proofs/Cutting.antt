@@ -15,8 +15,8 @@ use Rattle.framing.specs.Representation.{decode, encode, encodeArea}
 use Rattle.board.specs.declared.Settings.{Settings}
 use Rattle.board.specs.declared.Link.{Link}
 use Rattle.records.specs.Record.{recordsOf}
-use Rattle.units.specs.Marks.{lineMarks}
-use Rattle.units.specs.Desk.{happenings}
+use Rattle.units.specs.Indications.{lineIndications}
+use Rattle.units.specs.Units.{happenings}
 use Rattle.units.specs.Promises.{Sums}
 use Rattle.reception.specs.Line.{Board, boardAfter, lineHappenings, lineRecords}
 use Rattle.reception.proofs.Cutting.{board-cut, records-cut, sixteen-each, three-each, sum-over-line}
@@ -62,10 +62,10 @@ wrote l octets pool descriptors records r =
     ∙ take-at rs (drop (0 + length rs) records) (16 * length (lineHappenings (l .settings) b octets)) n
 
 -- the link that holds a board gives that board back
-pub board-back : (l : Link) (b : Board) → length (b .receiver .gathered) ≤ 8 * 279 → boardOf (linkOf l b) (b .office .pool) (b .office .descriptors) ≡ b
+pub board-back : (l : Link) (b : Board) → length (b .receiver .gathered) ≤ 8 * 279 → boardOf (linkOf l b) (b .unitMemory .pool) (b .unitMemory .descriptors) ≡ b
 board-back l b h =
     let g = unpack 279 (b .receiver .gathered) h in
-    λ i. record { receiver = record { run = b .receiver .run; hunting = b .receiver .hunting; gathered = g i }; office = b .office; watch = b .watch }
+    λ i. record { receiver = record { run = b .receiver .run; hunting = b .receiver .hunting; gathered = g i }; unitMemory = b .unitMemory; supervision = b .supervision }
 
 module _ (l : Link) (xs ys pool descriptors records records₁ records₂ : List ℕ) (z : receiveAnswer l (xs ++ ys) pool descriptors records .number ≡ 0)
     (ok₁ : Receivable l xs pool descriptors records₁) where
@@ -113,8 +113,8 @@ module _ (l : Link) (xs ys pool descriptors records records₁ records₂ : List
         ≡ written middle ++ written (receiveAnswer (middle .link) ys (middle .pool) (middle .descriptors) records₂))
     both-ways = (
       ap (λ (x : ReceiveOutcome). x .link) (one .1) ∙ ap (linkOf l) boards ∙ sym (ap (λ (x : ReceiveOutcome). x .link) (second .1)),
-      ap (λ (x : ReceiveOutcome). x .pool) (one .1) ∙ ap (λ (x : Board). x .office .pool) boards ∙ sym (ap (λ (x : ReceiveOutcome). x .pool) (second .1)),
-      ap (λ (x : ReceiveOutcome). x .descriptors) (one .1) ∙ ap (λ (x : Board). x .office .descriptors) boards
+      ap (λ (x : ReceiveOutcome). x .pool) (one .1) ∙ ap (λ (x : Board). x .unitMemory .pool) boards ∙ sym (ap (λ (x : ReceiveOutcome). x .pool) (second .1)),
+      ap (λ (x : ReceiveOutcome). x .descriptors) (one .1) ∙ ap (λ (x : Board). x .unitMemory .descriptors) boards
           ∙ sym (ap (λ (x : ReceiveOutcome). x .descriptors) (second .1)),
       in-order-records,
     )
@@ -167,7 +167,7 @@ sum-kept-by-command l command e = go (eqb (commandNumber l command) 0)
 
 -- ---- P1
 pub no-octets : NoOctets
-unfolding receiveAnswer lineHappenings lineRecords happenings lineMarks recordsOf
+unfolding receiveAnswer lineHappenings lineRecords happenings lineIndications recordsOf
 no-octets l pool descriptors records = go (eqb (receiveNumber l [] pool descriptors records) 0)
   where
     go : (b : Bool)

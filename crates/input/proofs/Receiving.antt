@@ -18,15 +18,15 @@ use Rattle.monitor.specs.declared.Mode.the-variants.{Off, Failure, Alignment, I
 use Rattle.records.specs.Promises.{LimitsInRange, MonitorInRange, countInRange}
 use Rattle.board.specs.declared.Settings.{Settings}
 use Rattle.board.specs.declared.Link.{Link}
-use Rattle.board.specs.Order.{malformed, countOut}
-use Rattle.board.proofs.Orders.{both, Ranges, InOrder, in-order}
+use Rattle.board.specs.Malformed.{malformed, countOut}
+use Rattle.board.proofs.Ranges.{both, Ranges, InOrder, in-order}
 use Rattle.board.proofs.Past.{past-holds}
-use Rattle.units.specs.Marks.{lineReceiver, lineMarks}
-use Rattle.marks.specs.declared.Progress.{Progress}
+use Rattle.units.specs.Indications.{lineReceiver, lineIndications}
+use Rattle.indications.specs.declared.Progress.{Progress}
 use Rattle.reception.specs.declared.Passed.{Passed}
-use Rattle.marks.specs.Writing.{limitsOf, Written, holding, marksDone}
+use Rattle.indications.specs.Writing.{monitorLimits, Written, holding, indicationsDone}
 use Rattle.reception.specs.Line.{boardAfter, lineHappenings, lineRecords}
-use Rattle.reception.specs.Writing.{Ready, LineTaken}
+use Rattle.reception.specs.Writing.{StateInRange, LineTaken}
 use Rattle.link.specs.Refusals.{fitsMemory}
 use Rattle.input.specs.Refusals.{receiveNumber}
 use Rattle.input.specs.Receive.{ReceiveOutcome, progressOf, boardOf, linkAfter, received, receiveAnswer}
@@ -49,7 +49,7 @@ pub record Receivable (l : Link) (octets pool descriptors records : List ℕ) : 
   pub few : length octets ≤ 1024
   pub room : 48 * length octets ≤ length records
 
-count-in : (mode : Mode) (s : Settings) (count : ℕ) → countOut mode s count ≡ false → countInRange (limitsOf s) mode count
+count-in : (mode : Mode) (s : Settings) (count : ℕ) → countOut mode s count ≡ false → countInRange (monitorLimits s) mode count
 count-in Failure s count e = leb-false (s .t) count e
 count-in Alignment s count e = leb-false (s .a) count e
 count-in Idle s count e = ltb-false 1024 count e
@@ -77,10 +77,10 @@ module _ (l : Link) (octets pool descriptors records : List ℕ) where
     s : Ranges (l .settings)
     s = r .order .settings
 
-    pub limits : LimitsInRange (limitsOf (l .settings))
+    pub limits : LimitsInRange (monitorLimits (l .settings))
     limits = record { t-low = s .t .0; t-high = s .t .1; d-low = s .d .0; d-high = s .d .1; a-low = s .a .0; a-high = s .a .1 }
 
-    pub ready : Ready (l .settings) (holding (progressOf l) pool descriptors records)
+    pub ready : StateInRange (l .settings) (holding (progressOf l) pool descriptors records)
     ready =
         record {
           monitor = record { number = r .order .number; count = count-in (l .monitor .mode) (l .settings) (l .monitor .count) (r .order .count) };
@@ -112,7 +112,7 @@ module _ (l : Link) (octets pool descriptors records : List ℕ) where
         records = records′;
       }
       ≡ received l octets pool descriptors records
-  unfolding marksDone boardAfter lineHappenings lineRecords
+  unfolding indicationsDone boardAfter lineHappenings lineRecords
   is-received p area′ pool′ descriptors′ records′ m t =
       let g : Receiver = lineReceiver (l .settings .m) (decode (l .line .state) (l .line .area)) octets in
       let w = t .written in
@@ -124,10 +124,10 @@ module _ (l : Link) (octets pool descriptors records : List ℕ) where
       λ i.
       record {
         number = 0;
-        link = linkAfter l (record { state = state i; area = area i }) (record { desk = w i .office .desk; watch = w i .watch; count = 0 });
+        link = linkAfter l (record { state = state i; area = area i }) (record { units = w i .unitMemory .units; supervision = w i .supervision; count = 0 });
         count = count i;
-        pool = w i .office .pool;
-        descriptors = w i .office .descriptors;
+        pool = w i .unitMemory .pool;
+        descriptors = w i .unitMemory .descriptors;
         records = w i .out;
       }
 

@@ -7,8 +7,8 @@ use lib.Seq.{sets}
 use Rattle.framing.specs.Representation.{decode, encode, encodeArea}
 use Rattle.board.specs.declared.Link.{Link}
 use Rattle.board.specs.declared.Gathering.{Gathering}
-use Rattle.units.specs.Desk.{office}
-use Rattle.marks.specs.declared.Progress.{Progress}
+use Rattle.units.specs.Units.{unitMemory}
+use Rattle.indications.specs.declared.Progress.{Progress}
 use Rattle.reception.specs.Line.{Board, boardAfter, lineHappenings, lineRecords}
 use Rattle.link.specs.Refusals.{pick}
 use Rattle.input.specs.Refusals.{receiveNumber}
@@ -21,12 +21,12 @@ pub record ReceiveOutcome : Type 0 where
   pub descriptors : List ℕ
   pub records : List ℕ
 
--- desk, monitor and event bits, with no record written yet
+-- unit state, monitor and event bits, with no record written yet
 abbrev pub progressOf : Link → Progress
 progressOf l =
     record {
-      desk = record { counting = l .counting; memory = l .memory; slots = l .slots; counts = l .counts };
-      watch = record { monitor = l .monitor; events = l .events };
+      units = record { counting = l .counting; memory = l .memory; slots = l .slots; counts = l .counts };
+      supervision = record { monitor = l .monitor; events = l .events };
       count = 0;
     }
 
@@ -35,8 +35,8 @@ abbrev pub boardOf : Link → List ℕ → List ℕ → Board
 boardOf l pool descriptors =
     record {
       receiver = decode (l .line .state) (l .line .area);
-      office = office (progressOf l .desk) pool descriptors;
-      watch = progressOf l .watch;
+      unitMemory = unitMemory (progressOf l .units) pool descriptors;
+      supervision = progressOf l .supervision;
     }
 
 abbrev pub linkAfter : Link → Gathering → Progress → Link
@@ -45,12 +45,12 @@ linkAfter l g q =
       opened = l .opened;
       settings = l .settings;
       line = g;
-      counting = q .desk .counting;
-      monitor = q .watch .monitor;
-      memory = q .desk .memory;
-      slots = q .desk .slots;
-      counts = q .desk .counts;
-      events = q .watch .events;
+      counting = q .units .counting;
+      monitor = q .supervision .monitor;
+      memory = q .units .memory;
+      slots = q .units .slots;
+      counts = q .units .counts;
+      events = q .supervision .events;
       transmitter = l .transmitter;
     }
 
@@ -58,7 +58,7 @@ linkAfter l g q =
 abbrev pub linkOf : Link → Board → Link
 linkOf l b =
     linkAfter l (record { state = encode (b .receiver); area = encodeArea (b .receiver) })
-    (record { desk = b .office .desk; watch = b .watch; count = 0 })
+    (record { units = b .unitMemory .units; supervision = b .supervision; count = 0 })
 
 -- "Receive returns how many it wrote. The rest of the area is unchanged."
 abbrev pub received : Link → List ℕ → List ℕ → List ℕ → List ℕ → ReceiveOutcome
@@ -69,8 +69,8 @@ received l octets pool descriptors records =
       number = 0;
       link = linkOf l after;
       count = length (lineHappenings (l .settings) b octets);
-      pool = after .office .pool;
-      descriptors = after .office .descriptors;
+      pool = after .unitMemory .pool;
+      descriptors = after .unitMemory .descriptors;
       records = sets records 0 (lineRecords (l .settings) b octets);
     }
 

@@ -5,7 +5,7 @@ use mathlib.Core.List.{List, [], _∷_}
 use lib.Dec.{ltb}
 use lib.ListN.{length}
 use Rattle.board.specs.declared.Link.{Link}
-use Rattle.board.specs.Order.{malformed}
+use Rattle.board.specs.Malformed.{malformed}
 use Rattle.link.specs.Refusals.{Fault, fault, first, fitsMemory}
 
 -- "7 more than 1,024 line octets", "8 record area under 48 octets for each line octet"

@@ -1,10 +1,10 @@
 // Input: receive, the call that takes line octets in.
 use board::Gathering;
 use board::Link;
-use board::order;
-use marks::Progress;
-use records::Watch;
-use units::Desk;
+use board::wellformed;
+use indications::Progress;
+use records::Supervision;
+use units::UnitState;
 ghost use mathlib.Core.Path.{_≡_};
 ghost use Rattle.input.specs.Refusals.{receiveNumber};
 ghost use Rattle.input.specs.Receive.{progressOf, linkAfter, receiveAnswer};
@@ -20,7 +20,7 @@ pub struct Received {
 fn receive_number(link: Link, octets: &[u8], pool: &[u8], descriptors: &[u16], records: &[u8]) -> u8
     ensures { λ r. ⌜ r ≡ receiveNumber link (now (octets .entry)) (now (pool .entry)) (now (descriptors .entry)) (now (records .entry)) ⌝ }
 {
-    let malformed = order::is_malformed(link);
+    let malformed = wellformed::is_malformed(link);
     let fits = link::booking::fits_memory(link.settings.k, pool, descriptors);
     // 48 octets for each line octet, asked without a product that could overflow
     let short = records.len() / 48 < octets.len();
@@ -41,13 +41,13 @@ fn progress_of(link: Link) -> Progress
     let counts = link.counts;
     let monitor = link.monitor;
     Progress {
-        desk: Desk {
+        units: UnitState {
             counting: counting,
             memory: memory,
             slots: slots,
             counts: counts,
         },
-        watch: Watch {
+        supervision: Supervision {
             monitor: monitor,
             events: link.events,
         },
@@ -61,7 +61,7 @@ fn link_after(link: Link, line: Gathering, q: Progress) -> Link
 {
     let mut l = link;
     l.line = line;
-    let d = q.desk;
+    let d = q.units;
     let counting = d.counting;
     l.counting = counting;
     let memory = d.memory;
@@ -70,7 +70,7 @@ fn link_after(link: Link, line: Gathering, q: Progress) -> Link
     l.slots = slots;
     let counts = d.counts;
     l.counts = counts;
-    let w = q.watch;
+    let w = q.supervision;
     let monitor = w.monitor;
     l.monitor = monitor;
     l.events = w.events;

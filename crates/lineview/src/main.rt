@@ -1,4 +1,4 @@
 // Reads line octets from standard input and writes their records to standard output.
 fn main() {
-    viewing::view_input();
+    lineview_run::view_input();
 }

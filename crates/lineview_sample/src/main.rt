@@ -1,4 +1,4 @@
 // lineview on a longer line.
 fn main() {
-    viewing::view_input();
+    lineview_run::view_input();
 }

@@ -11,8 +11,8 @@ use borrow.Author.Tests.{eq-eqb, ne-eqb, eqb-true, leb-false, ltb-false, not-fal
 use Rattle.memory.specs.Lent.{zeros, emptyDescriptors, statusOf, lengthOf, slotOf, withSlot, withDescriptor, emptySlot}
 use Rattle.board.specs.declared.Settings.{Settings}
 use Rattle.board.specs.declared.Link.{Link}
-use Rattle.board.specs.Order.{inRange, malformed}
-use Rattle.board.proofs.Orders.{both, neither}
+use Rattle.board.specs.Malformed.{inRange, malformed}
+use Rattle.board.proofs.Ranges.{both, neither}
 use Rattle.link.specs.declared.Answer.{Answer}
 use Rattle.link.specs.Refusals.{pick, fitsMemory, openNumber, commandNumber, readNumber}
 use Rattle.link.specs.Calls.{Outcome, outcome, openedLink, openAnswer, obeyed, commandAnswer, readPart, handAnswer}

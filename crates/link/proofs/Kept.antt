@@ -11,7 +11,7 @@ use Rattle.memory.specs.Lent.{zeros, emptyDescriptors, statusOf, lengthOf, with
 use Rattle.memory.proofs.Slots.{wiped-zeros, pool-length, descriptor-written, descriptors-length}
 use Rattle.board.specs.declared.Settings.{Settings}
 use Rattle.board.specs.declared.Link.{Link}
-use Rattle.board.specs.Order.{malformed}
+use Rattle.board.specs.Malformed.{malformed}
 use Rattle.link.specs.Refusals.{pick, fault, first, fitsMemory, openNumber, commandNumber, readNumber}
 use Rattle.link.specs.Calls.{Outcome, outcome, openedLink, openAnswer, wipeAnswer, commandAnswer, readPart, handAnswer}
 use Rattle.link.specs.Promises.{RefusedOpen, RefusedCommand, RefusedRead, RefusedHandBack, WipeLeavesNothing, OpensOnWiped, HandedBackIsEmpty}

@@ -7,7 +7,7 @@ use lib.ListN.{length}
 use Rattle.memory.specs.Lent.{zeros, statusOf, lengthOf}
 use Rattle.board.specs.declared.Settings.{Settings}
 use Rattle.board.specs.declared.Link.{Link}
-use Rattle.board.specs.Order.{inRange, malformed}
+use Rattle.board.specs.Malformed.{inRange, malformed}
 
 abbrev pub pick : {A : Type 0} → Bool → A → A → A
 pick true a b = a

@@ -3,7 +3,7 @@ use crate::Answer;
 use board::Counting;
 use board::Link;
 use board::Settings;
-use board::order;
+use board::wellformed;
 ghost use mathlib.Core.Path.{_≡_};
 ghost use Prim.Native.Nat.{ℕ};
 ghost use Rattle.link.specs.Refusals.{fitsMemory, openNumber};
@@ -21,8 +21,8 @@ pub fn fits_memory(k: u16, pool: &[u8], descriptors: &[u16]) -> bool
 fn open_number(link: Link, settings: Settings, pool: &[u8], descriptors: &[u16]) -> u8
     ensures { λ r. ⌜ r ≡ openNumber link settings (now (pool .entry)) (now (descriptors .entry)) ⌝ }
 {
-    let malformed = order::is_malformed(link);
-    let range = order::in_range(settings);
+    let malformed = wellformed::is_malformed(link);
+    let range = wellformed::in_range(settings);
     let fits = fits_memory(settings.k, pool, descriptors);
     let octets = memory::no_octet(pool);
     let words = memory::no_word(descriptors);

@@ -2,7 +2,7 @@
 use crate::Answer;
 use board::Counting;
 use board::Link;
-use board::order;
+use board::wellformed;
 use filter::Memory;
 use monitor::Monitor;
 ghost use mathlib.Core.Path.{_≡_};
@@ -13,7 +13,7 @@ ghost use Rattle.link.specs.Calls.{obeyed, commandAnswer};
 fn command_number(link: Link, command: u16) -> u8
     ensures { λ r. ⌜ r ≡ commandNumber link command ⌝ }
 {
-    let malformed = order::is_malformed(link);
+    let malformed = wellformed::is_malformed(link);
     let eleven = crate::refuse((command < 1) | (5 < command), 11, 0);
     let two = crate::refuse(!link.opened, 2, eleven);
     crate::refuse(malformed, 1, two)

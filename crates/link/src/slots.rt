@@ -2,7 +2,7 @@
 use crate::Answer;
 use crate::booking;
 use board::Link;
-use board::order;
+use board::wellformed;
 ghost use mathlib.Core.Path.{_≡_};
 ghost use Rattle.link.specs.Refusals.{readNumber};
 ghost use Rattle.link.specs.Calls.{readPart, handAnswer};
@@ -11,7 +11,7 @@ ghost use Rattle.link.specs.Calls.{readPart, handAnswer};
 pub fn read_number(link: Link, pool: &[u8], descriptors: &[u16], slot: u16) -> u8
     ensures { λ r. ⌜ r ≡ readNumber link (now (pool .entry)) (now (descriptors .entry)) slot ⌝ }
 {
-    let malformed = order::is_malformed(link);
+    let malformed = wellformed::is_malformed(link);
     let k = link.settings.k;
     let fits = booking::fits_memory(k, pool, descriptors);
     let at = 2 * (slot as usize);

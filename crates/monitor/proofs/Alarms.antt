@@ -17,7 +17,7 @@ use Rattle.monitor.specs.declared.Alarm.the-variants.{Nothing, Suer, Aer
 use Rattle.monitor.specs.declared.Monitor.{Monitor}
 use Rattle.monitor.specs.declared.Limits.{Limits}
 use Rattle.monitor.specs.declared.Stepped.{Stepped}
-use Rattle.monitor.specs.Monitor.{started, failing, aligning, step, after, alarms}
+use Rattle.monitor.specs.Monitor.{started, failing, aligning, step, monitorAfter, alarms}
 use Rattle.monitor.specs.Stretch.{Rule, decayPoint, failures, alignments, First}
 use Rattle.monitor.specs.Promises.{alarmAt, SuerExactly, AermExactly, FailureNeverAerm, AlignmentNeverSuer, OffOrIdleStays}
 use Rattle.monitor.proofs.Steps.{step-failing, step-aligning, step-off-or-idle}
@@ -185,8 +185,8 @@ module _ (x : Which) (l : Limits) (h : List Bool) (m : Monitor) (e : Bool) where
 
 -- ---- Any list of events.
 module _ (x : Which) (l : Limits) where
-  pub follows-after : (g h : List Bool) (m : Monitor) → Follows x l h m → Follows x l (h ++ g) (after l m g)
-  unfolding after
+  pub follows-after : (g h : List Bool) (m : Monitor) → Follows x l h m → Follows x l (h ++ g) (monitorAfter l m g)
+  unfolding monitorAfter
   follows-after [] h m f = rw append-nil f
   follows-after (e ∷ g) h m f =
       rw append-assoc at (follows-after g (snoc h e) (step l m e .monitor) (follows-next x l h m e f))
@@ -254,7 +254,7 @@ alignment-never-suer = never-other alignment
 
 -- ---- Off and idle.
 pub off-or-idle-stays : OffOrIdleStays
-unfolding after alarms
+unfolding monitorAfter alarms
 off-or-idle-stays l m [] q = (refl, refl)
 off-or-idle-stays l m (e ∷ h) q =
     let i = off-or-idle-stays l m h q in

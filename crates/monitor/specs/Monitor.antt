@@ -62,8 +62,8 @@ step l m e =
     byMode (m .mode) (failing (l .t) (l .d) c (m .number)) (aligning (l .a) c (m .number)) (gives m Nothing)
 
 -- the monitor after events, oldest first, and the alarm at each of them
-unfoldable pub after : Limits → Monitor → List Bool → Monitor
-after l = run (λ m e. step l m e .monitor)
+unfoldable pub monitorAfter : Limits → Monitor → List Bool → Monitor
+monitorAfter l = run (λ m e. step l m e .monitor)
 
 unfoldable pub alarms : Limits → Monitor → List Bool → List Alarm
 alarms l = outs (λ m e. step l m e .monitor) (λ m e. step l m e .alarm ∷ [])

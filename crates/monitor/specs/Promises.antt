@@ -12,7 +12,7 @@ use Rattle.monitor.specs.declared.Alarm.{Alarm}
 use Rattle.monitor.specs.declared.Alarm.the-variants.{Nothing, Suer, Aerm}
 use Rattle.monitor.specs.declared.Monitor.{Monitor}
 use Rattle.monitor.specs.declared.Limits.{Limits}
-use Rattle.monitor.specs.Monitor.{started, OffOrIdle, after, alarms}
+use Rattle.monitor.specs.Monitor.{started, OffOrIdle, monitorAfter, alarms}
 use Rattle.monitor.specs.Stretch.{Rule, errored, failures, alignments, Reaches, First, tested}
 
 -- ---- The law of the reflected count
@@ -52,7 +52,7 @@ AlignmentNeverSuer = (l : Limits) (h : List Bool) (n : ℕ) → ¬ (alarmAt l Al
 abbrev pub OffOrIdleStays : Type 0
 OffOrIdleStays =
     (l : Limits) (m : Monitor) (h : List Bool) → OffOrIdle m
-    → (after l m h ≡ m) × (alarms l m h ≡ replicate (length h) Nothing)
+    → (monitorAfter l m h ≡ m) × (alarms l m h ≡ replicate (length h) Nothing)
 
 -- ---- Sixty-five errored events in a row
 abbrev pub limitsOf : ℕ → ℕ → ℕ → Limits

@@ -13,19 +13,19 @@ use borrow.Author.Tests.{eqb-true, ltb-false, not-false}
 use Rattle.bits.specs.Octets.{bitsOf, lineBits, octetOf}
 use Rattle.sending.specs.declared.Tx.{Tx}
 use Rattle.sending.specs.Stuffing.{flag, unitLine}
-use Rattle.sending.specs.Packing.{octetsOut, stillWaiting, afterBits, written, Puts, Ready, Room}
+use Rattle.sending.specs.Packing.{octetsOut, stillWaiting, afterBits, areaPut, Puts, TxInRange, Room}
 use Rattle.sending.proofs.Puttings.{ready-after, place-after, puts-append, written-append}
 use Rattle.sending.proofs.Stuffs.{unit-length}
 use Rattle.board.specs.declared.Transmitter.{Transmitter}
 use Rattle.board.specs.declared.Link.{Link}
-use Rattle.board.specs.Order.{zeroPast, noOnes}
-use Rattle.board.proofs.Orders.{neither, InOrder, in-order}
+use Rattle.board.specs.Malformed.{zeroPast, noOnes}
+use Rattle.board.proofs.Ranges.{neither, InOrder, in-order}
 use Rattle.board.proofs.Past.{part-above}
 use Rattle.link.specs.Refusals.{pick, first}
 use Rattle.link.proofs.Faults.{none}
 use Rattle.link.proofs.Answers.{done, refused}
 use Rattle.output.specs.Refusals.{sendNumber, fillNumber, sharedNumber}
-use Rattle.output.specs.Output.{sender, firstFlag, unitOut, fillIn, fillOut, fillEvent, linkSent, putOut, notSent, sendAnswer, fillAnswer}
+use Rattle.output.specs.Output.{sender, firstFlag, unitOut, fillContent, fillOut, fillEvent, linkSent, putOut, notSent, sendAnswer, fillAnswer}
 
 -- ---- what no fault says
 pub record Ready-to-put (l : Link) (output : List ℕ) : Type 0 where
@@ -71,7 +71,7 @@ below n x few typed e =
     bits : bitsOf 8 x ≡ lineBits (x ∷ [])
     bits = sym (append-nil (bitsOf 8 x))
 
-pub ready : (l : Link) → InOrder l → l .transmitter .wait < 256 → Ready (sender (l .transmitter))
+pub ready : (l : Link) → InOrder l → l .transmitter .wait < 256 → TxInRange (sender (l .transmitter))
 ready l o typed =
     record { few = o .waiting; low = below (l .transmitter .count) (l .transmitter .wait) (o .waiting) typed (o .wait); short = omega arith }
 
@@ -121,9 +121,9 @@ module _ (t : Transmitter) (content output : List ℕ) where
       same : length out₁ ≡ length output
       same = ap length (p .area) ∙ length-sets output 0 (octetsOut (sender t) flag)
 
-      pub then-ready : Ready f × Room f (unitLine content) out₁
+      pub then-ready : TxInRange f × Room f (unitLine content) out₁
       then-ready = (
-        subst Ready (sym (p .tx)) (ready-after (sender t) flag 0 (omega arith)),
+        subst TxInRange (sym (p .tx)) (ready-after (sender t) flag 0 (omega arith)),
         subst (λ (x : Tx). Room x (unitLine content) out₁) (sym (p .tx))
             (omega (arith, same, place-after (sender t) flag 0, length-append flag (unitLine content), subst (λ (bs : List Bool). Room (sender t) bs output) first-bits room)),
       )
@@ -135,8 +135,8 @@ module _ (t : Transmitter) (content output : List ℕ) where
                 q .tx ∙ ap (λ (x : Tx). afterBits x (unitLine content) 0) (p .tx) ∙ puts-append (sender t) flag (unitLine content) 0 0
                 ∙ ap (λ (bs : List Bool). afterBits (sender t) bs 0) (sym first-bits);
             area =
-                q .area ∙ ap₂ (λ (o : List ℕ) (x : Tx). written o x (unitLine content)) (p .area) (p .tx)
-                ∙ written-append output (sender t) flag (unitLine content) 0 ∙ ap (written output (sender t)) (sym first-bits);
+                q .area ∙ ap₂ (λ (o : List ℕ) (x : Tx). areaPut o x (unitLine content)) (p .area) (p .tx)
+                ∙ written-append output (sender t) flag (unitLine content) 0 ∙ ap (areaPut output (sender t)) (sym first-bits);
           }
 
 -- ---- the answers
@@ -145,7 +145,7 @@ take-two [] h = absurd (omega arith)
 take-two (a ∷ []) h = absurd (omega arith)
 take-two (a ∷ b ∷ cs) h = refl
 
-pub fill-content : (last : List ℕ) → length last ≡ 2 → getD last 0 0 ∷ getD last 1 0 ∷ 0 ∷ [] ≡ fillIn last
+pub fill-content : (last : List ℕ) → length last ≡ 2 → getD last 0 0 ∷ getD last 1 0 ∷ 0 ∷ [] ≡ fillContent last
 fill-content [] h = absurd (omega arith)
 fill-content (a ∷ []) h = absurd (omega arith)
 fill-content (a ∷ b ∷ []) h = refl
@@ -189,15 +189,15 @@ module _ (l : Link) (output : List ℕ) (n : ℕ) (e : n ≡ fillNumber l output
   unfolding fillAnswer fillOut
   flag-done r out′ link′ z s p q =
       put-done l flag false (l .transmitter .last) 0 output r out′ link′ p q
-      ∙ ap (λ (b : Bool). putOut l (pick b (unitOut (l .transmitter) (fillIn (l .transmitter .last))) flag) b (l .transmitter .last) (fillEvent b) output) (sym s)
+      ∙ ap (λ (b : Bool). putOut l (pick b (unitOut (l .transmitter) (fillContent (l .transmitter .last))) flag) b (l .transmitter .last) (fillEvent b) output) (sym s)
       ∙ sym (done _ _ _ (sym e ∙ z))
 
   pub fill-done : (r : Tx) (out′ : List ℕ) (link′ : Link) → n ≡ 0 → l .transmitter .sent ≡ true
-      → Puts output (sender (l .transmitter)) (unitOut (l .transmitter) (fillIn (l .transmitter .last))) 0 r out′
+      → Puts output (sender (l .transmitter)) (unitOut (l .transmitter) (fillContent (l .transmitter .last))) 0 r out′
       → link′ ≡ linkSent l (r .count) (r .wait) true (l .transmitter .last) 256
       → record { number = 0; link = link′; count = r .at; output = out′ } ≡ fillAnswer l output
   unfolding fillAnswer fillOut
   fill-done r out′ link′ z s p q =
-      put-done l (unitOut (l .transmitter) (fillIn (l .transmitter .last))) true (l .transmitter .last) 256 output r out′ link′ p q
-      ∙ ap (λ (b : Bool). putOut l (pick b (unitOut (l .transmitter) (fillIn (l .transmitter .last))) flag) b (l .transmitter .last) (fillEvent b) output) (sym s)
+      put-done l (unitOut (l .transmitter) (fillContent (l .transmitter .last))) true (l .transmitter .last) 256 output r out′ link′ p q
+      ∙ ap (λ (b : Bool). putOut l (pick b (unitOut (l .transmitter) (fillContent (l .transmitter .last))) flag) b (l .transmitter .last) (fillEvent b) output) (sym s)
       ∙ sym (done _ _ _ (sym e ∙ z))

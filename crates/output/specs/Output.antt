@@ -35,11 +35,11 @@ unitOut t content = firstFlag (t .flagged) ++ unitLine content
 
 -- "Fill sends the first two octets of the last content sent, then an octet 0. Before any content it puts out one flag only, [..] whether or
 -- not a flag has gone before"
-abbrev pub fillIn : List ℕ → List ℕ
-fillIn last = last ++ (0 ∷ [])
+abbrev pub fillContent : List ℕ → List ℕ
+fillContent last = last ++ (0 ∷ [])
 
 unfoldable pub fillOut : Transmitter → List Bool
-fillOut t = pick (t .sent) (unitOut t (fillIn (t .last))) flag
+fillOut t = pick (t .sent) (unitOut t (fillContent (t .last))) flag
 
 -- "8 fill-in sent", "and no event bit is set" for a flag alone
 abbrev pub fillEvent : Bool → ℕ

@@ -5,7 +5,7 @@ use mathlib.Core.List.{List, [], _∷_}
 use lib.Dec.{ltb}
 use lib.ListN.{length}
 use Rattle.board.specs.declared.Link.{Link}
-use Rattle.board.specs.Order.{malformed}
+use Rattle.board.specs.Malformed.{malformed}
 use Rattle.link.specs.Refusals.{pick, Fault, fault, first}
 
 -- "9 output area under 336 octets"

@@ -1,10 +1,10 @@
 // Output: send and fill, the calls that put units on the line.
 use board::Link;
 use board::Transmitter;
-use board::order;
+use board::wellformed;
 use sending::Tx;
 ghost use mathlib.Core.Path.{_≡_};
-ghost use Rattle.sending.specs.Packing.{Puts, Ready, Room};
+ghost use Rattle.sending.specs.Packing.{Puts, TxInRange, Room};
 ghost use Rattle.output.specs.Refusals.{sendNumber, sharedNumber};
 ghost use Rattle.output.specs.Output.{sender, unitOut, linkSent, sendAnswer, fillAnswer};
 
@@ -19,7 +19,7 @@ pub struct Sent {
 fn shared_number(l: Link, output: &[u8], rest: u8) -> u8
     ensures { λ r. ⌜ r ≡ sharedNumber l (now (output .entry)) rest ⌝ }
 {
-    let malformed = order::is_malformed(l);
+    let malformed = wellformed::is_malformed(l);
     let nine = link::refuse(output.len() < Link::OUTPUT, 9, rest);
     let two = link::refuse(!l.opened, 2, nine);
     link::refuse(malformed, 1, two)
@@ -49,7 +49,7 @@ fn sender_of(t: Transmitter) -> Tx
 
 // A unit behind what waits. The first output of a booking begins with a flag; later the flag before it opens the unit.
 fn put_out(output: &mut [u8], t: Transmitter, content: &[u8]) -> Tx
-    requires { ⌜ Ready (sender t) × Room (sender t) (unitOut t (now content)) (now output) ⌝ }
+    requires { ⌜ TxInRange (sender t) × Room (sender t) (unitOut t (now content)) (now output) ⌝ }
     ensures { λ r. ⌜ Puts (now (output .entry)) (sender t) (unitOut t (now (content .entry))) 0 r (now (output .exit)) ⌝ }
 {
     let s = sender_of(t);

@@ -29,14 +29,14 @@ bench k filter =
     }
 
 -- opened, and the failure monitor started
-abbrev pub started : ℕ → Bool → Link
-started k filter = obeyed 2 (openedLink (bench k filter))
+abbrev pub benchStarted : ℕ → Bool → Link
+benchStarted k filter = obeyed 2 (openedLink (bench k filter))
 
 -- P2: 7E 00 00 00 7E gives 05 00 03 00 and twelve octets 00.
 abbrev pub P2 : Type 0
 P2 =
     (pool records : List ℕ)
-    → let o = receiveAnswer (started 16 false) (126 ∷ 0 ∷ 0 ∷ 0 ∷ 126 ∷ []) pool (emptyDescriptors 16) records in
+    → let o = receiveAnswer (benchStarted 16 false) (126 ∷ 0 ∷ 0 ∷ 0 ∷ 126 ∷ []) pool (emptyDescriptors 16) records in
     o .number ≡ 0 → written o ≡ 5 ∷ 0 ∷ 3 ∷ 0 ∷ replicate 12 0
 
 -- the kinds of the records that a call wrote: octet 0 of each sixteen
@@ -49,7 +49,7 @@ kinds o = firsts (o .count) (written o)
 
 -- a line received on that board with all slots empty
 abbrev pub onBench : Bool → List ℕ → List ℕ → List ℕ → ReceiveOutcome
-onBench filter line pool records = receiveAnswer (started 16 filter) line pool (emptyDescriptors 16) records
+onBench filter line pool records = receiveAnswer (benchStarted 16 filter) line pool (emptyDescriptors 16) records
 
 -- P6: 39 zero bits between flags are short, 40 aren't.
 abbrev pub P6 : Type 0
@@ -78,7 +78,7 @@ P12 =
 abbrev pub P13 : Type 0
 P13 =
     (pool records records′ : List ℕ)
-    → let lost = receiveAnswer (started 1 true) (126 ∷ fisu) pool (0 ∷ 5 ∷ []) records in
+    → let lost = receiveAnswer (benchStarted 1 true) (126 ∷ fisu) pool (0 ∷ 5 ∷ []) records in
     let freed = handAnswer (lost .link) (lost .pool) (lost .descriptors) 0 in
     let again = receiveAnswer (freed .link) (fisu ++ fisu) (freed .pool) (freed .descriptors) records′ in
     lost .number ≡ 0 → freed .number ≡ 0 → again .number ≡ 0 → (kinds lost ≡ 2 ∷ []) × (kinds again ≡ 0 ∷ 1 ∷ [])

@@ -9,11 +9,11 @@ use Rattle.bits.specs.Octets.{bitsOf, lineBits}
 use Rattle.bits.specs.Machine.{run-append, outs-append}
 use Rattle.bits.proofs.Digits.{length-bitsOf}
 use Rattle.bits.proofs.Lines.{line-append, line-cons}
-use Rattle.framing.specs.Delimitation.{Receiver, Finding, closed, flagged, stepBit, next, finds, after, findings}
+use Rattle.framing.specs.Delimitation.{Receiver, Finding, closed, flagged, stepBit, next, finds, receiverAfter, findings}
 use Rattle.sending.specs.Stuffing.{stuffed, flag, onLine, unitBits, unitLine}
 use Rattle.sending.proofs.Stuffs.{unit-bits}
 use Rattle.sending.proofs.ReadBack.{ClosesLast, closes-last}
-use Rattle.units.specs.Marks.{octetReceiver, lineReceiver}
+use Rattle.units.specs.Indications.{octetReceiver, lineReceiver}
 
 -- ---- a list cut in two places
 pub record Seam (a b c d : List Bool) : Type 0 where
@@ -31,7 +31,7 @@ seam [] b (y ∷ c) d e h = absurd (omega arith)
 seam (x ∷ a) b (y ∷ c) d e h = cons-seam x y a b c d (cc) (seam a b c d (cc) (omega arith))
 
 -- ---- the receiver of line octets is that of their bits
-pub by-bits : (M : ℕ) (octets : List ℕ) (s : Receiver) → lineReceiver M s octets ≡ after M s (lineBits octets)
+pub by-bits : (M : ℕ) (octets : List ℕ) (s : Receiver) → lineReceiver M s octets ≡ receiverAfter M s (lineBits octets)
 unfolding lineReceiver lineBits
 by-bits M [] s = refl
 by-bits M (x ∷ octets) s = by-bits M octets (octetReceiver M s x) ∙ sym (run-append (next M) (bitsOf 8 x) (lineBits octets) s)
@@ -43,15 +43,15 @@ append-empty (x ∷ xs) ys e = let z : _≡_ {A = ℕ} 0 1 = cc in absurd (omega
 
 -- nothing is found in `quiet`, of which the octet holds the end q₂, and the bit after it closes u
 close-found : (M : ℕ) (u quiet q₁ q₂ behind : List Bool) → quiet ≡ q₁ ++ q₂ → findings M flagged quiet ≡ []
-    → stepBit M (after M flagged quiet) false ≡ (flagged, closed u ∷ [])
-    → findings M (after M flagged q₁) (q₂ ++ (false ∷ behind)) ≡ closed u ∷ findings M flagged behind
+    → stepBit M (receiverAfter M flagged quiet) false ≡ (flagged, closed u ∷ [])
+    → findings M (receiverAfter M flagged q₁) (q₂ ++ (false ∷ behind)) ≡ closed u ∷ findings M flagged behind
 close-found M u quiet q₁ q₂ behind e none last =
-    let none₂ : findings M (after M flagged q₁) q₂ ≡ [] =
-    append-empty (findings M flagged q₁) (findings M (after M flagged q₁) q₂)
+    let none₂ : findings M (receiverAfter M flagged q₁) q₂ ≡ [] =
+    append-empty (findings M flagged q₁) (findings M (receiverAfter M flagged q₁) q₂)
     (sym (outs-append (next M) (finds M) q₁ q₂ flagged) ∙ ap (findings M flagged) (sym e) ∙ none) in
-    let there : after M (after M flagged q₁) q₂ ≡ after M flagged quiet =
-    sym (run-append (next M) q₁ q₂ flagged) ∙ ap (after M flagged) (sym e) in
-    outs-append (next M) (finds M) q₂ (false ∷ behind) (after M flagged q₁)
+    let there : receiverAfter M (receiverAfter M flagged q₁) q₂ ≡ receiverAfter M flagged quiet =
+    sym (run-append (next M) q₁ q₂ flagged) ∙ ap (receiverAfter M flagged) (sym e) in
+    outs-append (next M) (finds M) q₂ (false ∷ behind) (receiverAfter M flagged q₁)
     ∙ ap₂ (λ (xs : List Finding) (s : Receiver). xs ++ findings M s (false ∷ behind)) none₂ there
     ∙ ap (λ (st : Receiver × List Finding). st .1 ++ findings M (st .0) behind) last
 
@@ -61,7 +61,7 @@ line-eight u = omega (arith, length-append (stuffed 0 u) flag)
 
 module _ (M : ℕ) (r : Receiver) (early : List ℕ) (last : ℕ) (before behind : List Bool) (content : List ℕ)
     (line : lineBits (early ++ (last ∷ [])) ≡ before ++ (unitLine content ++ behind)) (few : length behind ≤ 7)
-    (opens : after M r before ≡ flagged) (room : length content + 2 ≤ M) where
+    (opens : receiverAfter M r before ≡ flagged) (room : length content + 2 ≤ M) where
   c : ClosesLast M (unitBits content)
   c = closes-last M (unitBits content) (omega (arith, unit-bits content)) (omega (arith, unit-bits content))
 
@@ -79,7 +79,7 @@ module _ (M : ℕ) (r : Receiver) (early : List ℕ) (last : ℕ) (before behind
 
   pub last-finds : findings M (lineReceiver M r early) L ≡ closed (unitBits content) ∷ findings M flagged behind
   last-finds =
-      ap (λ (s : Receiver). findings M s L) start ∙ ap (findings M (after M flagged q₁)) (second .back)
+      ap (λ (s : Receiver). findings M s L) start ∙ ap (findings M (receiverAfter M flagged q₁)) (second .back)
       ∙ close-found M (unitBits content) (c .quiet) q₁ (second .between) behind (second .front) (c .nothing) (c .last)
     where
       quiet-long : 7 ≤ length (c .quiet)
@@ -108,6 +108,6 @@ module _ (M : ℕ) (r : Receiver) (early : List ℕ) (last : ℕ) (before behind
       second : Seam (c .quiet) (false ∷ behind) q₁ L
       second = seam (c .quiet) (false ∷ behind) q₁ L (first .back) (omega (arith, eight, early-long))
 
-      start : lineReceiver M r early ≡ after M flagged q₁
+      start : lineReceiver M r early ≡ receiverAfter M flagged q₁
       start =
-          by-bits M early r ∙ ap (after M r) (first .front) ∙ run-append (next M) before q₁ r ∙ ap (λ (s : Receiver). after M s q₁) opens
+          by-bits M early r ∙ ap (receiverAfter M r) (first .front) ∙ run-append (next M) before q₁ r ∙ ap (λ (s : Receiver). receiverAfter M s q₁) opens

@@ -5,10 +5,10 @@ use mathlib.Core.List.{List, [], _∷_, _++_}
 use native.Mathlib.Omega.{arith}
 use lib.ListN.{length, length-take}
 use Rattle.bits.specs.Octets.{lineBits}
-use Rattle.records.specs.Record.{watchAfter, recordsOf}
+use Rattle.records.specs.Record.{supervisionAfter, recordsOf}
 use Rattle.board.specs.declared.Settings.{Settings}
-use Rattle.units.specs.Marks.{lineReceiver, lineMarks}
-use Rattle.units.specs.Desk.{officeAfter, happenings}
+use Rattle.units.specs.Indications.{lineReceiver, lineIndications}
+use Rattle.units.specs.Units.{unitMemoryAfter, happenings}
 use Rattle.reception.specs.Line.{Board, boardAfter, lineHappenings, lineRecords}
 use Rattle.reception.proofs.Cutting.{board-cut, records-cut}
 use Rattle.input.specs.Receive.{ReceiveOutcome, boardOf, received}
@@ -67,11 +67,11 @@ module _ (h : Held) (f : Feed) (z : answer h f .number ≡ 0) where
 
 -- ---- calls in a row
 none-board : (h : Held) → board h ≡ boardAfter (h .link .settings) (board h) []
-unfolding boardAfter lineReceiver lineMarks officeAfter lineHappenings happenings watchAfter
+unfolding boardAfter lineReceiver lineIndications unitMemoryAfter lineHappenings happenings supervisionAfter
 none-board h = refl
 
 none-records : (s : Settings) (b : Board) → [] ≡ lineRecords s b []
-unfolding lineRecords lineMarks lineHappenings happenings recordsOf
+unfolding lineRecords lineIndications lineHappenings happenings recordsOf
 none-records s b = refl
 
 pub fed-as-one : FedAsOne

@@ -10,8 +10,8 @@ use lib.Dec.{eqb, ltb}
 use borrow.Author.Tests.{ltb-false}
 use Rattle.bits.specs.Octets.{bitsOf}
 use Rattle.bits.proofs.Digits.{snoc-length}
-use Rattle.framing.specs.Delimitation.{Receiver, Finding, closed, abort, long, hunts, inside, flagged, unit, gather, flag, stepBit, next, finds, after, findings}
-use Rattle.units.specs.Marks.{Mark, found, octetEnd, octetReceiver, octetMarks, lineReceiver, lineMarks}
+use Rattle.framing.specs.Delimitation.{Receiver, Finding, closed, abort, long, hunts, inside, flagged, unit, gather, flag, stepBit, next, finds, receiverAfter, findings}
+use Rattle.units.specs.Indications.{Indication, found, octetEnd, octetReceiver, octetIndications, lineReceiver, lineIndications}
 use Rattle.reception.proofs.Octets.{AllAllowed, none-left, one-more}
 
 -- no unit is closed
@@ -134,17 +134,17 @@ module _ (M : ℕ) (s : Receiver) where
       go false e false q = rw (e, q) (gather-step 0 false (omega arith))
 
 -- ---- bits: no more than 8M + 7 are gathered, and what is closed fits
-after-held : (M : ℕ) (bs : List Bool) (s : Receiver) → length (s .gathered) ≤ 8 * M + 7 → length (after M s bs .gathered) ≤ 8 * M + 7
+after-held : (M : ℕ) (bs : List Bool) (s : Receiver) → length (s .gathered) ≤ 8 * M + 7 → length (receiverAfter M s bs .gathered) ≤ 8 * M + 7
 after-held M [] s h = h
 after-held M (b ∷ bs) s h = after-held M bs (next M s b) (step M s b .held h)
 
-after-sound : (M : ℕ) (bs : List Bool) (s : Receiver) → Sound s → Sound (after M s bs)
+after-sound : (M : ℕ) (bs : List Bool) (s : Receiver) → Sound s → Sound (receiverAfter M s bs)
 after-sound M [] s h = h
 after-sound M (b ∷ bs) s h = after-sound M bs (next M s b) (step M s b .sound h)
 
-marks-both : (xs ys : List Mark) → AllAllowed xs → AllAllowed ys → AllAllowed (xs ++ ys)
-marks-both [] ys none-left b = b
-marks-both (x ∷ xs) ys (one-more h a) b = one-more h (marks-both xs ys a b)
+indications-both : (xs ys : List Indication) → AllAllowed xs → AllAllowed ys → AllAllowed (xs ++ ys)
+indications-both [] ys none-left b = b
+indications-both (x ∷ xs) ys (one-more h a) b = one-more h (indications-both xs ys a b)
 
 found-both : (xs ys : List Finding) → AllAllowed (map found xs) → AllAllowed (map found ys) → AllAllowed (map found (xs ++ ys))
 found-both [] ys a b = b
@@ -166,12 +166,12 @@ unfolding lineReceiver
 line-sound M [] s h = h
 line-sound M (x ∷ octets) s h = line-sound M octets (octetReceiver M s x) (after-sound M (bitsOf 8 x) s h)
 
-pub line-allowed : (M : ℕ) (octets : List ℕ) (s : Receiver) → M ≤ 278 → length (s .gathered) ≤ 8 * M + 7 → AllAllowed (lineMarks M s octets)
-unfolding lineMarks
+pub line-allowed : (M : ℕ) (octets : List ℕ) (s : Receiver) → M ≤ 278 → length (s .gathered) ≤ 8 * M + 7 → AllAllowed (lineIndications M s octets)
+unfolding lineIndications
 line-allowed M [] s m h = none-left
 line-allowed M (x ∷ octets) s m h =
-    marks-both (octetMarks M s x) (lineMarks M (octetReceiver M s x) octets)
-    (marks-both (map found (findings M s (bitsOf 8 x))) (octetEnd ∷ []) (findings-allowed M (bitsOf 8 x) s m h) (one-more {m = octetEnd} (omega arith) none-left))
+    indications-both (octetIndications M s x) (lineIndications M (octetReceiver M s x) octets)
+    (indications-both (map found (findings M s (bitsOf 8 x))) (octetEnd ∷ []) (findings-allowed M (bitsOf 8 x) s m h) (one-more {m = octetEnd} (omega arith) none-left))
     (line-allowed M octets (octetReceiver M s x) m (after-held M (bitsOf 8 x) s h))
 
 -- ---- few bits from a flag on close nothing

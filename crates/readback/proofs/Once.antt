@@ -9,7 +9,7 @@ use lib.Dec.{eqb, ltb}
 use Rattle.framing.specs.Delimitation.{Receiver, Finding, closed, abort, long, hunts, inside, flagged, unit, gather, flag, stepBit, findings}
 use Rattle.readback.proofs.Gathered.{Unclosed, none, aborted, overlong, flag-unclosed}
 use Rattle.readback.proofs.Pieces.{found as closings}
-use Rattle.readback.proofs.Turns.{closings-length}
+use Rattle.readback.proofs.Rounds.{closings-length}
 
 -- ---- one bit: what it finds, and that a unit is closed by a flag
 data Finds : Receiver × List Finding → Type 0 where

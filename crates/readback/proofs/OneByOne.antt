@@ -16,35 +16,35 @@ use Rattle.link.proofs.Kept.{opened}
 use Rattle.transmission.specs.Transmission.{fillsFirst, contents}
 use Rattle.link.specs.Held.{Held}
 use Rattle.readback.specs.Feeding.{board, Feed, answer, fed}
-use Rattle.readback.specs.Shelf.{unitOctets, Shelf, shelfAfter}
+use Rattle.readback.specs.SlotRing.{unitOctets, SlotRing, ringAfter}
 use Rattle.readback.specs.Streams.{AllAllowed, closedOut}
 use Rattle.readback.specs.Streams.{none as none-allowed, more as more-allowed}
 use Rattle.readback.specs.Using.{InUse}
-use Rattle.readback.specs.Turns.{Turn, turned, octetsTurned, Roomy, none, more, shelfOf}
+use Rattle.readback.specs.Rounds.{Round, roundDone, octetsOfRounds, Roomy, none, more, ringOf}
 use Rattle.readback.specs.Promises.{line}
 use Rattle.readback.specs.OneByOne.{slotsOf, oneByOne, AllReadOneByOne}
 use Rattle.readback.proofs.Feeding.{can-receive, same-settings}
 use Rattle.readback.proofs.Standing.{unit-length}
 use Rattle.readback.proofs.Stream.{fresh}
 use Rattle.readback.proofs.Using.{open-in-use, taken, still-used}
-use Rattle.readback.proofs.Turns.{Parts, parts, both-allowed, hand-links, Reads, Called, called, stream-reads}
+use Rattle.readback.proofs.Rounds.{Parts, parts, both-allowed, hand-links, Reads, Called, called, stream-reads}
 use Rattle.readback.proofs.Once.{at-most-one}
 use Rattle.readback.proofs.Emptying.{Returnable, empty, full, Clear, all-back}
-use Rattle.readback.proofs.ReadBack.{waiting, sent-line, all-read-in-turns}
+use Rattle.readback.proofs.ReadBack.{waiting, sent-line, all-read-in-rounds}
 
 -- ---- the slots after at most one unit
-shelf-returnable : (k M : ℕ) (x : Shelf) (us : List (List ℕ)) → length us ≤ 1 → AllAllowed M us → M ≤ 278 → 2 * x .next + 2 ≤ length (x .descriptors)
-    → (slot : ℕ) → statusOf (x .descriptors) slot ≡ 32768 → Returnable (shelfAfter k x us .descriptors) slot
-unfolding shelfAfter
-shelf-returnable k M x [] few a m room slot e = empty e
-shelf-returnable k M x (u ∷ []) few (more-allowed a none-allowed) m room slot e =
+ring-returnable : (k M : ℕ) (x : SlotRing) (us : List (List ℕ)) → length us ≤ 1 → AllAllowed M us → M ≤ 278 → 2 * x .next + 2 ≤ length (x .descriptors)
+    → (slot : ℕ) → statusOf (x .descriptors) slot ≡ 32768 → Returnable (ringAfter k x us .descriptors) slot
+unfolding ringAfter
+ring-returnable k M x [] few a m room slot e = empty e
+ring-returnable k M x (u ∷ []) few (more-allowed a none-allowed) m room slot e =
     elim (ℕ-discrete slot (x .next)) [
       | yes p ↦ subst (Returnable (withDescriptor (x .descriptors) (x .next) 0 (length (unitOctets u)))) (sym p)
           (let w = descriptor-written (x .descriptors) (x .next) 0 (length (unitOctets u)) room in
           full (w .0) (omega (arith, w .1, unit-length u, a .most)))
       | no p ↦ empty (descriptor-kept (x .descriptors) (x .next) slot 0 (length (unitOctets u)) p .0 ∙ e)
     ]
-shelf-returnable k M x (u ∷ v ∷ us) few a m room slot e = absurd (omega arith)
+ring-returnable k M x (u ∷ v ∷ us) few a m room slot e = absurd (omega arith)
 
 -- ---- one octet
 abbrev octetFeed : ℕ → Feed
@@ -54,7 +54,7 @@ module _ (k : ℕ) (h : Held) (clear : Clear k h) (x : ℕ) (xs : List ℕ) (ws 
   abbrev f : Feed
   f = octetFeed x
 
-  abbrev t : Turn
+  abbrev t : Round
   t = record { feed = f; back = slotsOf k }
 
   room : 48 * length (f .octets) ≤ length (f .records)
@@ -89,17 +89,17 @@ module _ (k : ℕ) (h : Held) (clear : Clear k h) (x : ℕ) (xs : List ℕ) (ws 
   returnable slot b =
       let can = can-receive h f zero-answered in
       let a = both-allowed (h .link .settings .m) (p .early) (p .late) (subst (AllAllowed (h .link .settings .m)) (p .is) (r .allowed)) in
-      subst (λ (s : Shelf). Returnable (s .descriptors) slot) (sym (this .shelf))
-      (shelf-returnable (h .link .settings .k) (h .link .settings .m) (shelfOf h) (p .early) one (a .0) (can .order .settings .m .1)
+      subst (λ (s : SlotRing). Returnable (s .descriptors) slot) (sym (this .ring))
+      (ring-returnable (h .link .settings .k) (h .link .settings .m) (ringOf h) (p .early) one (a .0) (can .order .settings .m .1)
       (omega (arith, can .order .next, can .words-2)) slot (clear .empty-each slot b))
 
   -- every slot is empty again,
-  then-clear : Clear k (turned h t)
+  then-clear : Clear k (roundDone h t)
   then-clear =
       all-back k k (fed h f) (still-used h f (clear .used) (omega arith) room) same-size (omega arith) returnable (λ slot a b. absurd (omega arith))
 
   -- and the rest of the line is still to come
-  then-reads : Reads (turned h t .link) (lineBits xs) (p .late)
+  then-reads : Reads (roundDone h t .link) (lineBits xs) (p .late)
   then-reads = subst (λ (l : Link). Reads l (lineBits xs) (p .late)) (sym (hand-links (slotsOf k) (fed h f))) (this .goes-on)
 
 -- ---- all octets
@@ -108,10 +108,10 @@ unfolding oneByOne
 roomy k [] h ws clear r = none
 roomy k (x ∷ xs) h ws clear r =
     more (zero-answered k h clear x xs ws r) (every-empty k h clear x xs ws r) (few-records k h clear x xs ws r)
-    (roomy k xs (turned h (t k h clear x xs ws r)) (p k h clear x xs ws r .late) (then-clear k h clear x xs ws r) (then-reads k h clear x xs ws r))
+    (roomy k xs (roundDone h (t k h clear x xs ws r)) (p k h clear x xs ws r .late) (then-clear k h clear x xs ws r) (then-reads k h clear x xs ws r))
 
-octets-are : (k : ℕ) (xs : List ℕ) → octetsTurned (oneByOne k xs) ≡ xs
-unfolding octetsTurned oneByOne
+octets-are : (k : ℕ) (xs : List ℕ) → octetsOfRounds (oneByOne k xs) ≡ xs
+unfolding octetsOfRounds oneByOne
 octets-are k [] = refl
 octets-are k (x ∷ xs) = ap {B = List ℕ} (λ ys. x ∷ ys) (octets-are k xs)
 
@@ -125,7 +125,7 @@ all-read-one-by-one b l s pool descriptors sent z off allowed =
     let reads =
     stream-reads s (fillsFirst (b .sendings)) (contents (b .sendings)) (lineBits (line b)) (waiting b) off
     (sent-line b sent .0) (sent-line b sent .1) allowed in
-    all-read-in-turns b l s pool descriptors (oneByOne (s .k) (line b)) sent z off allowed
+    all-read-in-rounds b l s pool descriptors (oneByOne (s .k) (line b)) sent z off allowed
     (subst (λ (o : Outcome).
     let held : Held = record { link = o .link; pool = o .pool; descriptors = o .descriptors } in
     InUse held → Roomy held (oneByOne (s .k) (line b)))

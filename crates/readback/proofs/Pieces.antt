@@ -7,7 +7,7 @@ use native.Mathlib.Omega.{arith}
 use borrow.Author.Tests.{le-ltb, ne-eqb}
 use lib.ListN.{length, replicate, length-append, length-replicate}
 use Rattle.bits.specs.Machine.{run-append, outs-append}
-use Rattle.framing.specs.Delimitation.{Receiver, Finding, closed, newReceiver, flagged, inside, stepBit, next, finds, after, findings}
+use Rattle.framing.specs.Delimitation.{Receiver, Finding, closed, newReceiver, flagged, inside, stepBit, next, finds, receiverAfter, findings}
 use Rattle.sending.specs.Stuffing.{stuffed, flag, unitBits, unitLine}
 use Rattle.sending.specs.Stream.{flags, unitsLine, streamLine}
 use Rattle.sending.proofs.ReadBack.{closes-last}
@@ -36,9 +36,9 @@ nil-left [] ys e = refl
 nil-left (x ∷ xs) ys e = absurd (omega (arith, ap length e))
 
 -- ---- one receiver reads two parts
-module _ (M : ℕ) (s t : Receiver) (xs ys : List Bool) (e : after M s xs ≡ t) where
-  after-both : after M s (xs ++ ys) ≡ after M t ys
-  after-both = run-append (next M) xs ys s ∙ ap (λ (r : Receiver). after M r ys) e
+module _ (M : ℕ) (s t : Receiver) (xs ys : List Bool) (e : receiverAfter M s xs ≡ t) where
+  after-both : receiverAfter M s (xs ++ ys) ≡ receiverAfter M t ys
+  after-both = run-append (next M) xs ys s ∙ ap (λ (r : Receiver). receiverAfter M r ys) e
 
   findings-both : findings M s (xs ++ ys) ≡ findings M s xs ++ findings M t ys
   findings-both = outs-append (next M) (finds M) xs ys s ∙ ap (λ (r : Receiver). findings M s xs ++ findings M r ys) e
@@ -46,11 +46,11 @@ module _ (M : ℕ) (s t : Receiver) (xs ys : List Bool) (e : after M s xs ≡ t)
 -- nothing is found in the front of what nothing is found in
 front-nothing : (M : ℕ) (s : Receiver) (xs ys : List Bool) → findings M s (xs ++ ys) ≡ [] → findings M s xs ≡ []
 front-nothing M s xs ys e =
-    nil-left (findings M s xs) (findings M (after M s xs) ys) (sym (outs-append (next M) (finds M) xs ys s) ∙ e)
+    nil-left (findings M s xs) (findings M (receiverAfter M s xs) ys) (sym (outs-append (next M) (finds M) xs ys s) ∙ e)
 
 -- ---- flags
 pub record Idles (M : ℕ) (s : Receiver) (bs : List Bool) : Type 0 where
-  pub state : after M s bs ≡ flagged
+  pub state : receiverAfter M s bs ≡ flagged
   pub nothing : findings M s bs ≡ []
 
 new-flag : (M : ℕ) → Idles M newReceiver flag
@@ -61,7 +61,7 @@ new-flag M = record { state = refl; nothing = refl }
 reads : (M : ℕ) (s s′ : Receiver) (b : Bool) (bs : List Bool) → stepBit M s b ≡ (s′, []) → Idles M s′ bs → Idles M s (b ∷ bs)
 reads M s s′ b bs e p =
     record {
-      state = ap (λ (st : Receiver × List Finding). after M (st .0) bs) e ∙ p .state;
+      state = ap (λ (st : Receiver × List Finding). receiverAfter M (st .0) bs) e ∙ p .state;
       nothing = ap (λ (st : Receiver × List Finding). st .1 ++ findings M (st .0) bs) e ∙ p .nothing;
     }
 

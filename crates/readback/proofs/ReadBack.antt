@@ -16,14 +16,14 @@ use Rattle.transmission.specs.Transmission.{Sending, send, fill, linkAfter, wai
 use Rattle.transmission.proofs.Line.{transmitter-line}
 use Rattle.link.specs.Held.{Held}
 use Rattle.readback.specs.Feeding.{board, Feed, fed, heldAfter, Answered, none, more}
-use Rattle.readback.specs.Shelf.{unitOctets}
-use Rattle.readback.specs.Streams.{booked}
-use Rattle.readback.specs.Promises.{Booking, opening, Sends, line, ahead, ReadBack, lastSent, FillSends, FillReadBack, AllReadBack, AllReadInTurns}
+use Rattle.readback.specs.SlotRing.{unitOctets}
+use Rattle.readback.specs.Streams.{justOpened}
+use Rattle.readback.specs.Promises.{Booking, opening, Sends, line, ahead, ReadBack, lastSent, FillSends, FillReadBack, AllReadBack, AllReadInRounds}
 use Rattle.readback.proofs.Feeding.{same-settings}
 use Rattle.readback.proofs.Closing.{seam}
 use Rattle.readback.proofs.Standing.{read-back-fed, slot-below, longest, unit-length}
 use Rattle.readback.proofs.Stream.{stream-read}
-use Rattle.readback.proofs.Turns.{stream-turns}
+use Rattle.readback.proofs.Rounds.{stream-rounds}
 use Rattle.readback.proofs.Using.{open-in-use, stays-in-use, stands-read}
 
 -- ---- a stretch of a line's octets, up to the one in which the bits U end
@@ -119,8 +119,8 @@ read-back b earlier later content s e h fs u sized off ok x =
       stands = back .0;
       reported = back .1;
       read =
-          stands-read (heldAfter h fs) (boardAfter (h .link .settings) (board h) (x .early) .office .desk .slots .next) (unitOctets content) (used .1)
-          (subst (λ (z : Settings). boardAfter (h .link .settings) (board h) (x .early) .office .desk .slots .next < z .k)
+          stands-read (heldAfter h fs) (boardAfter (h .link .settings) (board h) (x .early) .unitMemory .units .slots .next) (unitOctets content) (used .1)
+          (subst (λ (z : Settings). boardAfter (h .link .settings) (board h) (x .early) .unitMemory .units .slots .next < z .k)
           (sym (settings-kept h fs (used .0))) (slot-below h fs (x .early) (x .last) (used .0) (x .fed)))
           (omega (arith, unit-length content, ok .most, longest h fs (x .early) (x .last) (used .0) (x .fed))) (back .0) .1;
     }
@@ -146,10 +146,10 @@ fill-read-back b ss₁ ss₂ output x y s e last h fs u sized off ok z =
 pub all-read-back : AllReadBack
 all-read-back b l s pool descriptors fs sent z off allowed sized e k =
     stream-read l s pool descriptors fs (fillsFirst (b .sendings)) (contents (b .sendings)) (waiting b) z off
-    (stays-in-use (booked l s pool descriptors) fs (open-in-use l s pool descriptors z) sized .0)
+    (stays-in-use (justOpened l s pool descriptors) fs (open-in-use l s pool descriptors z) sized .0)
     (ap (λ (xs : List ℕ). lineBits xs ++ waiting b) e ∙ sent-line b sent .0) (sent-line b sent .1) allowed k
 
-pub all-read-in-turns : AllReadInTurns
-all-read-in-turns b l s pool descriptors ts sent z off allowed roomy e =
-    stream-turns l s pool descriptors ts (fillsFirst (b .sendings)) (contents (b .sendings)) (waiting b) z off roomy
+pub all-read-in-rounds : AllReadInRounds
+all-read-in-rounds b l s pool descriptors ts sent z off allowed roomy e =
+    stream-rounds l s pool descriptors ts (fillsFirst (b .sendings)) (contents (b .sendings)) (waiting b) z off roomy
     (ap (λ (xs : List ℕ). lineBits xs ++ waiting b) e ∙ sent-line b sent .0) (sent-line b sent .1) allowed

@@ -11,8 +11,8 @@ use Rattle.bits.specs.Octets.{octetOf, packed}
 use Rattle.sending.specs.Packing.{stillWaiting}
 use Rattle.sending.proofs.Puttings.{nothing-lost}
 use Rattle.board.specs.declared.Link.{Link}
-use Rattle.board.specs.Order.{zeroPast, malformed}
-use Rattle.board.proofs.Orders.{InOrder, in-order}
+use Rattle.board.specs.Malformed.{zeroPast, malformed}
+use Rattle.board.proofs.Ranges.{InOrder, in-order}
 use Rattle.link.specs.Refusals.{first}
 use Rattle.output.specs.Refusals.{sendNumber, fillNumber}
 use Rattle.output.specs.Output.{OutputOutcome, sender}
@@ -22,7 +22,7 @@ use Rattle.transmission.proofs.Calls.{bitsOut, numberOf, put, accepted, is-done
 use Rattle.transmission.proofs.Line.{few-two, two-kept}
 use Rattle.link.specs.Held.{Held}
 use Rattle.readback.specs.Using.{InUse, Fitting, none, more, SendsInUse}
-use Rattle.readback.proofs.Ordered.{orderly, in-range, packed-past}
+use Rattle.readback.proofs.Formed.{orderly, in-range, packed-past}
 
 -- the waiting octet is zero past the bits that wait
 wait-past : (g : List Bool) → length g ≤ 7 → zeroPast (length g) (octetOf g ∷ []) ≡ true

@@ -13,10 +13,10 @@ use Rattle.framing.specs.Verdict.{verdictOf}
 use Rattle.sending.specs.Stuffing.{unitBits}
 use Rattle.sending.proofs.Sent.{sent-good, sent-octets}
 use Rattle.board.specs.declared.Settings.{Settings}
-use Rattle.units.specs.Marks.{lineMarks}
+use Rattle.units.specs.Indications.{lineIndications}
 use Rattle.units.specs.Fit.{Fits}
 use Rattle.reception.specs.Line.{Board, boardAfter, lineRecords}
-use Rattle.marks.specs.Writing.{holding, marksDone}
+use Rattle.indications.specs.Writing.{holding, indicationsDone}
 use Rattle.reception.proofs.Octets.{ready-kept}
 use Rattle.reception.proofs.Cutting.{board-cut, records-cut, sixteen-each}
 use Rattle.input.specs.Receive.{progressOf}
@@ -24,21 +24,21 @@ use Rattle.input.proofs.Receiving.{Receivable, limits, ready}
 use Rattle.link.specs.Held.{Held}
 use Rattle.readback.specs.Feeding.{board, Feed, heldAfter, recordsFed, octetsFed, Answered, none, more}
 use Rattle.readback.specs.Reading.{ReadBackFed}
-use Rattle.readback.specs.Shelf.{unitOctets}
+use Rattle.readback.specs.SlotRing.{unitOctets}
 use Rattle.readback.proofs.Gathered.{Unclosed, line-allowed, flag-unclosed}
 use Rattle.readback.proofs.Feeding.{few-gathered, can-receive, fed-as-one}
 use Rattle.readback.proofs.Closing.{last-finds}
-use Rattle.readback.proofs.Serving.{stands, reported}
+use Rattle.readback.proofs.Effects.{stands, reported}
 
--- ---- the desk and the lent memory fit after any octets from a link that can receive
+-- ---- the state of units and the lent memory fit after any octets from a link that can receive
 module _ (h : Held) (octets records : List ℕ) (r : Receivable (h .link) octets (h .pool) (h .descriptors) records) (line : List ℕ) where
   abbrev S : Settings
   S = h .link .settings
 
-  fits-after : let o = boardAfter S (board h) line .office in Fits S (o .desk) (o .pool) (o .descriptors)
-  unfolding boardAfter marksDone
+  fits-after : let o = boardAfter S (board h) line .unitMemory in Fits S (o .units) (o .pool) (o .descriptors)
+  unfolding boardAfter indicationsDone
   fits-after =
-      ready-kept S (holding (progressOf (h .link)) (h .pool) (h .descriptors) records) (lineMarks (S .m) (board h .receiver) line)
+      ready-kept S (holding (progressOf (h .link)) (h .pool) (h .descriptors) records) (lineIndications (S .m) (board h .receiver) line)
       (limits (h .link) octets (h .pool) (h .descriptors) records r)
       (line-allowed (S .m) line (board h .receiver) (r .order .settings .m .1) (few-gathered h octets records r))
       (ready (h .link) octets (h .pool) (h .descriptors) records r) .fits
@@ -56,7 +56,7 @@ start h (f ∷ fs) early last (more z a) e = record { octets = f .octets; record
 
 -- so the next slot is one of the link's, and no unit is longer than 278 octets
 module _ (h : Held) (fs : List Feed) (early : List ℕ) (last : ℕ) (a : Answered h fs) (octets : octetsFed fs ≡ early ++ (last ∷ [])) where
-  pub slot-below : boardAfter (h .link .settings) (board h) early .office .desk .slots .next < h .link .settings .k
+  pub slot-below : boardAfter (h .link .settings) (board h) early .unitMemory .units .slots .next < h .link .settings .k
   slot-below = let at = start h fs early last a octets in fits-after h (at .octets) (at .records) (at .can) early .next
 
   pub longest : h .link .settings .m ≤ 278
@@ -107,5 +107,5 @@ read-back-fed h fs early last before behind content a octets line few opens off 
     short : length (unitOctets content) ≤ 280
     short = omega (arith, unit-length content, at .can .order .settings .m)
 
-    fits : Fits s (b .office .desk) (b .office .pool) (b .office .descriptors)
+    fits : Fits s (b .unitMemory .units) (b .unitMemory .pool) (b .unitMemory .descriptors)
     fits = fits-after h (at .octets) (at .records) (at .can) early

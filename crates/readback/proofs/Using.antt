@@ -12,12 +12,12 @@ use Rattle.memory.specs.Lent.{emptyDescriptors, statusOf, lengthOf, slotOf, fil
 use Rattle.memory.proofs.Slots.{empty-length, filled-front}
 use Rattle.board.specs.declared.Settings.{Settings}
 use Rattle.board.specs.Link.{clearArea}
-use Rattle.board.specs.Order.{noOnes, zeroPast}
-use Rattle.board.proofs.Orders.{InOrder, Ranges, ranges}
-use Rattle.units.specs.Marks.{lineMarks}
+use Rattle.board.specs.Malformed.{noOnes, zeroPast}
+use Rattle.board.proofs.Ranges.{InOrder, Ranges, ranges}
+use Rattle.units.specs.Indications.{lineIndications}
 use Rattle.reception.specs.Line.{Board, boardAfter, lineHappenings, lineRecords}
-use Rattle.marks.specs.Writing.{holding, marksDone}
-use Rattle.reception.specs.Writing.{Ready}
+use Rattle.indications.specs.Writing.{holding, indicationsDone}
+use Rattle.reception.specs.Writing.{StateInRange}
 use Rattle.reception.proofs.Octets.{ready-kept}
 use Rattle.link.specs.Refusals.{first, fitsMemory, readNumber}
 use Rattle.input.specs.Refusals.{receiveNumber}
@@ -32,7 +32,7 @@ use Rattle.readback.specs.Feeding.{none as no-calls, more as one-call}
 use Rattle.readback.specs.Using.{InUse, none, more, OpenInUse, StaysInUse, AnyCutting, StandsRead}
 use Rattle.readback.proofs.Gathered.{Sound, line-held, line-sound, line-allowed}
 use Rattle.readback.proofs.Feeding.{few-gathered, fed-as-one}
-use Rattle.readback.proofs.Ordered.{count-out, orderly, in-range, packed-past, left-most}
+use Rattle.readback.proofs.Formed.{count-out, orderly, in-range, packed-past, left-most}
 
 -- the memory of k slots
 pub lent : (k : ℕ) (pool descriptors : List ℕ) → length pool ≡ 280 * k → length descriptors ≡ 2 * k → fitsMemory k pool descriptors ≡ true
@@ -101,12 +101,12 @@ module _ (h : Held) (f : Feed) (u : InUse h) (few : length (f .octets) ≤ 1024)
   few-bits : length (board h .receiver .gathered) ≤ 8 * S .m + 7
   few-bits = few-gathered h (f .octets) (f .records) can
 
-  -- desk, monitor and lent memory stay in range,
-  still-ready : Ready S (holding (record { desk = then .office .desk; watch = then .watch; count = 0 }) (then .office .pool) (then .office .descriptors) [])
-  unfolding boardAfter lineHappenings marksDone
+  -- unit state, monitor and lent memory stay in range,
+  still-ready : StateInRange S (holding (record { units = then .unitMemory .units; supervision = then .supervision; count = 0 }) (then .unitMemory .pool) (then .unitMemory .descriptors) [])
+  unfolding boardAfter lineHappenings indicationsDone
   still-ready =
       let k =
-      ready-kept S (holding (progressOf (h .link)) (h .pool) (h .descriptors) (f .records)) (lineMarks (S .m) (board h .receiver) (f .octets))
+      ready-kept S (holding (progressOf (h .link)) (h .pool) (h .descriptors) (f .records)) (lineIndications (S .m) (board h .receiver) (f .octets))
       (limits (h .link) (f .octets) (h .pool) (h .descriptors) (f .records) can)
       (line-allowed (S .m) (f .octets) (board h .receiver) (can .order .settings .m .1) few-bits)
       (ready (h .link) (f .octets) (h .pool) (h .descriptors) (f .records) can) in
@@ -124,9 +124,9 @@ module _ (h : Held) (f : Feed) (u : InUse h) (few : length (f .octets) ≤ 1024)
       (record { run = can .order .run; idle = λ e. ap (λ (n : ℕ). take n (lineBits (h .link .line .area))) (can .order .idle e) })
 
   -- and N's counter
-  left-after : then .office .desk .counting .left ≤ S .n
+  left-after : then .unitMemory .units .counting .left ≤ S .n
   unfolding boardAfter
-  left-after = left-most S (lineMarks (S .m) (board h .receiver) (f .octets)) (board h .office) (can .order .counter .1)
+  left-after = left-most S (lineIndications (S .m) (board h .receiver) (f .octets)) (board h .unitMemory) (can .order .counter .1)
 
   order-after : InOrder (linkOf (h .link) then)
   order-after =
@@ -138,7 +138,7 @@ module _ (h : Held) (f : Feed) (u : InUse h) (few : length (f .octets) ≤ 1024)
         idle = λ e. ap length (sound-after .idle e);
         counter = (still-ready .fits .counter, left-after);
         number = still-ready .monitor .number;
-        count = count-out (then .watch .monitor .mode) S (then .watch .monitor .count) (still-ready .monitor .count);
+        count = count-out (then .supervision .monitor .mode) S (then .supervision .monitor .count) (still-ready .monitor .count);
         next = still-ready .fits .next;
         waiting = can .order .waiting;
         unflagged = can .order .unflagged;
@@ -151,7 +151,7 @@ module _ (h : Held) (f : Feed) (u : InUse h) (few : length (f .octets) ≤ 1024)
       (record {
         opened = u .opened;
         formed = orderly (linkOf (h .link) then) (u .opened) (in-range (h .link) (u .opened) (u .formed)) order-after;
-        fits = lent (S .k) (then .office .pool) (then .office .descriptors) (still-ready .fits .octets) (still-ready .fits .words);
+        fits = lent (S .k) (then .unitMemory .pool) (then .unitMemory .descriptors) (still-ready .fits .octets) (still-ready .fits .words);
       })
 
 pub stays-in-use : StaysInUse

@@ -1,9 +1,9 @@
 -- What one link sends and another receives.
 pub mod Feeding
-pub mod Shelf
+pub mod SlotRing
 pub mod Reading
 pub mod Streams
 pub mod Using
-pub mod Turns
+pub mod Rounds
 pub mod Promises
 pub mod OneByOne

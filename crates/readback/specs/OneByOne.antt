@@ -8,8 +8,8 @@ use Rattle.board.specs.declared.Settings.{Settings}
 use Rattle.board.specs.declared.Link.{Link}
 use Rattle.link.specs.Calls.{openAnswer}
 use Rattle.transmission.specs.Transmission.{contents}
-use Rattle.readback.specs.Streams.{AllAllowed, closedOut, booked}
-use Rattle.readback.specs.Turns.{Turn, HandsOver}
+use Rattle.readback.specs.Streams.{AllAllowed, closedOut, justOpened}
+use Rattle.readback.specs.Rounds.{Round, HandsOver}
 use Rattle.readback.specs.Promises.{Booking, Sends, line, waits}
 
 -- all slots of k, the last first
@@ -17,7 +17,7 @@ unfoldable pub slotsOf : ℕ → List ℕ
 slotsOf zero = []
 slotsOf (suc k) = k ∷ slotsOf k
 
-unfoldable pub oneByOne : ℕ → List ℕ → List Turn
+unfoldable pub oneByOne : ℕ → List ℕ → List Round
 oneByOne k [] = []
 oneByOne k (x ∷ xs) = record { feed = record { octets = x ∷ []; records = replicate 48 0 }; back = slotsOf k } ∷ oneByOne k xs
 
@@ -27,4 +27,4 @@ abbrev pub AllReadOneByOne : Type 0
 AllReadOneByOne =
     (b : Booking) (l : Link) (s : Settings) (pool descriptors : List ℕ)
     → Sends b → openAnswer l s pool descriptors .number ≡ 0 → s .filter ≡ false → AllAllowed (s .m) (contents (b .sendings))
-    → HandsOver (booked l s pool descriptors) (oneByOne (s .k) (line b)) (closedOut (waits b) (contents (b .sendings)))
+    → HandsOver (justOpened l s pool descriptors) (oneByOne (s .k) (line b)) (closedOut (waits b) (contents (b .sendings)))

@@ -4,25 +4,25 @@ use mathlib.Core.Path.{_≡_}
 use mathlib.Core.Bool.{Bool, true, false}
 use mathlib.Core.List.{List, [], _∷_, _++_}
 use lib.ListN.{length, take, drop, replicate}
-use Rattle.framing.specs.Delimitation.{flagged, after}
+use Rattle.framing.specs.Delimitation.{flagged, receiverAfter}
 use Rattle.fcs.specs.Check.{checkOctets}
 use Rattle.sending.specs.Stuffing.{unitLine}
 use Rattle.sending.specs.Stream.{flags, flagsBefore, unitsLine}
 use Rattle.board.specs.declared.Settings.{Settings}
 use Rattle.board.specs.declared.Link.{Link}
 use Rattle.board.specs.Link.{newLink}
-use Rattle.units.specs.Desk.{Office, isFree}
+use Rattle.units.specs.Units.{UnitMemory, isFree}
 use Rattle.reception.specs.Line.{boardAfter}
 use Rattle.link.specs.Calls.{Outcome, openAnswer, readPart}
 use Rattle.transmission.specs.Transmission.{Sending, send, fill, linkAfter, octetsSent, Accepted, waitingBits, fillsFirst, contentsFrom, contents}
 use Rattle.transmission.specs.Promises.{row1}
 use Rattle.link.specs.Held.{Held}
 use Rattle.readback.specs.Feeding.{board, Feed, heldAfter, recordsFed, octetsFed}
-use Rattle.readback.specs.Shelf.{unitOctets, shelfAfter, shelfRecords}
+use Rattle.readback.specs.SlotRing.{unitOctets, ringAfter, ringRecords}
 use Rattle.readback.specs.Reading.{Stands, Reported}
-use Rattle.readback.specs.Streams.{Allowed, AllAllowed, closedOut, booked, emptyShelf}
+use Rattle.readback.specs.Streams.{Allowed, AllAllowed, closedOut, justOpened, emptyRing}
 use Rattle.readback.specs.Using.{InUse, AllSized}
-use Rattle.readback.specs.Turns.{Turn, octetsTurned, Roomy, HandsOver}
+use Rattle.readback.specs.Rounds.{Round, octetsOfRounds, Roomy, HandsOver}
 
 -- ---- the side that sends
 -- what is handed to open, and the sends and fills after it
@@ -56,7 +56,7 @@ ahead b earlier = flags (flagsBefore (fillsFirst (b .sendings)) (contents (b .se
 -- A stretch of the line is fed to a link, in any cutting, up to the octet `last` with the last bit of the unit's closing flag. It may begin
 -- anywhere before the unit, at any bit offset from it, if the link has read the flag before the unit when it comes to it. The next slot is
 -- free at the moment when that last octet comes.
-pub record Stretch (octets : List ℕ) (before : List Bool) (content : List ℕ) (h : Held) (fs : List Feed) : Type 0 where
+pub record Span (octets : List ℕ) (before : List Bool) (content : List ℕ) (h : Held) (fs : List Feed) : Type 0 where
   pub skipped : List ℕ
   pub early : List ℕ
   pub last : ℕ
@@ -66,12 +66,12 @@ pub record Stretch (octets : List ℕ) (before : List Bool) (content : List ℕ)
   pub begins : 8 * length skipped ≤ length before
   pub not-yet : 8 * length (skipped ++ early) < length (before ++ unitLine content)
   pub closes : length (before ++ unitLine content) ≤ 8 * length (skipped ++ early) + 8
-  pub flag-read : after (h .link .settings .m) (board h .receiver) (drop (8 * length skipped) before) ≡ flagged
-  pub free : isFree (boardAfter (h .link .settings) (board h) early .office) ≡ true
+  pub flag-read : receiverAfter (h .link .settings .m) (board h .receiver) (drop (8 * length skipped) before) ≡ flagged
+  pub free : isFree (boardAfter (h .link .settings) (board h) early .unitMemory) ≡ true
 
-abbrev pub officeThen : {octets : List ℕ} {before : List Bool} {content : List ℕ} {h : Held} {fs : List Feed}
-    → Stretch octets before content h fs → Office
-officeThen {h = h} x = boardAfter (h .link .settings) (board h) (x .early) .office
+abbrev pub unitMemoryThen : {octets : List ℕ} {before : List Bool} {content : List ℕ} {h : Held} {fs : List Feed}
+    → Span octets before content h fs → UnitMemory
+unitMemoryThen {h = h} x = boardAfter (h .link .settings) (board h) (x .early) .unitMemory
 
 -- the unit stands in the slot, its record of kind 0 is written, and read gives its octets
 pub record HandedOver (h : Held) (records : List ℕ) (slot : ℕ) (unit : List ℕ) : Type 0 where
@@ -84,8 +84,8 @@ abbrev pub ReadBack : Type 0
 ReadBack =
     (b : Booking) (earlier later : List (List ℕ)) (content : List ℕ) → Sends b → contents (b .sendings) ≡ earlier ++ (content ∷ later)
     → (h : Held) (fs : List Feed) → InUse h → AllSized fs → h .link .settings .filter ≡ false → Allowed (h .link .settings .m) content
-    → (x : Stretch (line b) (ahead b earlier) content h fs)
-    → HandedOver (heldAfter h fs) (recordsFed h fs) (officeThen x .desk .slots .next) (unitOctets content)
+    → (x : Span (line b) (ahead b earlier) content h fs)
+    → HandedOver (heldAfter h fs) (recordsFed h fs) (unitMemoryThen x .units .slots .next) (unitOctets content)
 
 -- D2.7: a fill after content sends the first two octets of the last content, then an octet 0,
 unfoldable pub lastSent : List ℕ → List Sending → List ℕ
@@ -104,8 +104,8 @@ FillReadBack =
     (b : Booking) (ss₁ ss₂ : List Sending) (output : List ℕ) (x y : ℕ) → Sends b → b .sendings ≡ ss₁ ++ (fill output ∷ ss₂)
     → lastSent [] ss₁ ≡ x ∷ y ∷ []
     → (h : Held) (fs : List Feed) → InUse h → AllSized fs → h .link .settings .filter ≡ false → Allowed (h .link .settings .m) (x ∷ y ∷ 0 ∷ [])
-    → (z : Stretch (line b) (ahead b (contents ss₁)) (x ∷ y ∷ 0 ∷ []) h fs)
-    → HandedOver (heldAfter h fs) (recordsFed h fs) (officeThen z .desk .slots .next) (x ∷ y ∷ 0 ∷ checkOctets (x ∷ y ∷ 0 ∷ []))
+    → (z : Span (line b) (ahead b (contents ss₁)) (x ∷ y ∷ 0 ∷ []) h fs)
+    → HandedOver (heldAfter h fs) (recordsFed h fs) (unitMemoryThen z .units .slots .next) (x ∷ y ∷ 0 ∷ checkOctets (x ∷ y ∷ 0 ∷ []))
 
 -- ---- read-back of all that was sent
 -- A fresh booking with its filter off that allows the lengths and has a slot for each unit reads all of the line, in any cutting: it hands over
@@ -116,19 +116,19 @@ AllReadBack =
     → Sends b → openAnswer l s pool descriptors .number ≡ 0 → s .filter ≡ false → AllAllowed (s .m) (contents (b .sendings))
     → AllSized fs → octetsFed fs ≡ line b
     → let us = closedOut (waits b) (contents (b .sendings)) in
-    let h = heldAfter (booked l s pool descriptors) fs in
+    let h = heldAfter (justOpened l s pool descriptors) fs in
     length us ≤ s .k
-    → (recordsFed (booked l s pool descriptors) fs ≡ shelfRecords (s .k) (emptyShelf (s .k) pool) us)
-    × (h .pool ≡ shelfAfter (s .k) (emptyShelf (s .k) pool) us .pool)
-    × (h .descriptors ≡ shelfAfter (s .k) (emptyShelf (s .k) pool) us .descriptors)
+    → (recordsFed (justOpened l s pool descriptors) fs ≡ ringRecords (s .k) (emptyRing (s .k) pool) us)
+    × (h .pool ≡ ringAfter (s .k) (emptyRing (s .k) pool) us .pool)
+    × (h .descriptors ≡ ringAfter (s .k) (emptyRing (s .k) pool) us .descriptors)
 
 -- The same for any number of units, if slots are handed back between the calls.
-abbrev pub AllReadInTurns : Type 0
-AllReadInTurns =
-    (b : Booking) (l : Link) (s : Settings) (pool descriptors : List ℕ) (ts : List Turn)
+abbrev pub AllReadInRounds : Type 0
+AllReadInRounds =
+    (b : Booking) (l : Link) (s : Settings) (pool descriptors : List ℕ) (ts : List Round)
     → Sends b → openAnswer l s pool descriptors .number ≡ 0 → s .filter ≡ false → AllAllowed (s .m) (contents (b .sendings))
-    → Roomy (booked l s pool descriptors) ts → octetsTurned ts ≡ line b
-    → HandsOver (booked l s pool descriptors) ts (closedOut (waits b) (contents (b .sendings)))
+    → Roomy (justOpened l s pool descriptors) ts → octetsOfRounds ts ≡ line b
+    → HandsOver (justOpened l s pool descriptors) ts (closedOut (waits b) (contents (b .sendings)))
 
 -- An example: the octets of three calls of one booking (`ThreeSent` of transmission), read by another with one slot: the record of the unit whose
 -- closing flag is out, and no other.
@@ -141,5 +141,5 @@ sampleFeed =
 
 abbrev pub SampleRead : Type 0
 SampleRead =
-    recordsFed (booked newLink row1 (replicate 280 0) (0 ∷ 0 ∷ [])) (sampleFeed ∷ [])
+    recordsFed (justOpened newLink row1 (replicate 280 0) (0 ∷ 0 ∷ [])) (sampleFeed ∷ [])
     ≡ 0 ∷ 0 ∷ 5 ∷ 0 ∷ 0 ∷ 0 ∷ 1 ∷ 0 ∷ 0x1f ∷ 2 ∷ 3 ∷ 0xb5 ∷ 0x08 ∷ 0 ∷ 0 ∷ 0 ∷ []

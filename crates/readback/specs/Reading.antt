@@ -5,15 +5,15 @@ use mathlib.Core.Bool.{Bool, true, false}
 use mathlib.Core.List.{List, [], _∷_, _++_}
 use lib.ListN.{length}
 use Rattle.bits.specs.Octets.{lineBits, Octets}
-use Rattle.framing.specs.Delimitation.{flagged, after}
+use Rattle.framing.specs.Delimitation.{flagged, receiverAfter}
 use Rattle.sending.specs.Stuffing.{unitLine}
 use Rattle.memory.specs.Lent.{statusOf, lengthOf, slotOf, filled}
 use Rattle.records.specs.Record.{recordOf}
-use Rattle.units.specs.Desk.{unitOf, isFree}
+use Rattle.units.specs.Units.{unitOf, isFree}
 use Rattle.reception.specs.Line.{boardAfter, lineRecords}
 use Rattle.link.specs.Held.{Held}
 use Rattle.readback.specs.Feeding.{board, Feed, heldAfter, recordsFed, octetsFed, Answered}
-use Rattle.readback.specs.Shelf.{unitOctets}
+use Rattle.readback.specs.SlotRing.{unitOctets}
 
 -- Calls that are all answered 0 leave the board, and write the records, of one line.
 abbrev pub FedAsOne : Type 0
@@ -46,8 +46,8 @@ ReadBackFed =
     (h : Held) (fs : List Feed) (early : List ℕ) (last : ℕ) (before behind : List Bool) (content : List ℕ)
     → Answered h fs → octetsFed fs ≡ early ++ (last ∷ [])
     → lineBits (early ++ (last ∷ [])) ≡ before ++ (unitLine content ++ behind) → length behind ≤ 7
-    → after (h .link .settings .m) (board h .receiver) before ≡ flagged
+    → receiverAfter (h .link .settings .m) (board h .receiver) before ≡ flagged
     → h .link .settings .filter ≡ false → 3 ≤ length content → length content + 2 ≤ h .link .settings .m → Octets content
-    → let then = boardAfter (h .link .settings) (board h) early .office in
+    → let then = boardAfter (h .link .settings) (board h) early .unitMemory in
     isFree then ≡ true
-    → Stands (heldAfter h fs) (then .desk .slots .next) (unitOctets content) × Reported (recordsFed h fs) (unitOctets content)
+    → Stands (heldAfter h fs) (then .units .slots .next) (unitOctets content) × Reported (recordsFed h fs) (unitOctets content)

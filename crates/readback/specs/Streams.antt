@@ -12,7 +12,7 @@ use Rattle.board.specs.declared.Link.{Link}
 use Rattle.link.specs.Calls.{openAnswer}
 use Rattle.link.specs.Held.{Held}
 use Rattle.readback.specs.Feeding.{Feed, heldAfter, recordsFed, octetsFed, Answered}
-use Rattle.readback.specs.Shelf.{Shelf, shelfAfter, shelfRecords}
+use Rattle.readback.specs.SlotRing.{SlotRing, ringAfter, ringRecords}
 
 -- content that can be sent, and that a receiver with longest unit M allows with its check octets
 pub record Allowed (M : ℕ) (content : List ℕ) : Type 0 where
@@ -35,12 +35,12 @@ closedOut zero cs = cs
 closedOut (suc n) cs = allButLast cs
 
 -- a booking just opened, and its slots
-abbrev pub booked : Link → Settings → List ℕ → List ℕ → Held
-booked l s pool descriptors =
+abbrev pub justOpened : Link → Settings → List ℕ → List ℕ → Held
+justOpened l s pool descriptors =
     let o = openAnswer l s pool descriptors in record { link = o .link; pool = o .pool; descriptors = o .descriptors }
 
-abbrev pub emptyShelf : ℕ → List ℕ → Shelf
-emptyShelf k pool = record { next = 0; pool = pool; descriptors = emptyDescriptors k; good = 0 }
+abbrev pub emptyRing : ℕ → List ℕ → SlotRing
+emptyRing k pool = record { next = 0; pool = pool; descriptors = emptyDescriptors k; good = 0 }
 
 -- A fresh booking with its filter off that allows the lengths and has slots enough is fed the octets of a transmitter's line, of which
 -- the bits w are still waiting, in any cutting. It hands over exactly the units whose closing flag is out, in order: their records are all
@@ -48,11 +48,11 @@ emptyShelf k pool = record { next = 0; pool = pool; descriptors = emptyDescripto
 abbrev pub StreamRead : Type 0
 StreamRead =
     (l : Link) (s : Settings) (pool descriptors : List ℕ) (fs : List Feed) (n : ℕ) (cs : List (List ℕ)) (w : List Bool)
-    → openAnswer l s pool descriptors .number ≡ 0 → s .filter ≡ false → Answered (booked l s pool descriptors) fs
+    → openAnswer l s pool descriptors .number ≡ 0 → s .filter ≡ false → Answered (justOpened l s pool descriptors) fs
     → lineBits (octetsFed fs) ++ w ≡ streamLine n cs → length w ≤ 7 → AllAllowed (s .m) cs
     → let us = closedOut (length w) cs in
-    let h = heldAfter (booked l s pool descriptors) fs in
+    let h = heldAfter (justOpened l s pool descriptors) fs in
     length us ≤ s .k
-    → (recordsFed (booked l s pool descriptors) fs ≡ shelfRecords (s .k) (emptyShelf (s .k) pool) us)
-    × (h .pool ≡ shelfAfter (s .k) (emptyShelf (s .k) pool) us .pool)
-    × (h .descriptors ≡ shelfAfter (s .k) (emptyShelf (s .k) pool) us .descriptors)
+    → (recordsFed (justOpened l s pool descriptors) fs ≡ ringRecords (s .k) (emptyRing (s .k) pool) us)
+    × (h .pool ≡ ringAfter (s .k) (emptyRing (s .k) pool) us .pool)
+    × (h .descriptors ≡ ringAfter (s .k) (emptyRing (s .k) pool) us .descriptors)

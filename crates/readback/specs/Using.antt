@@ -6,14 +6,14 @@ use mathlib.Core.List.{List, [], _∷_}
 use lib.ListN.{length}
 use Rattle.board.specs.declared.Settings.{Settings}
 use Rattle.board.specs.declared.Link.{Link}
-use Rattle.board.specs.Order.{malformed}
+use Rattle.board.specs.Malformed.{malformed}
 use Rattle.link.specs.Refusals.{fitsMemory, readNumber}
 use Rattle.link.specs.Calls.{openAnswer, readPart}
 use Rattle.transmission.specs.Transmission.{Sending, send, fill, linkAfter, Accepted}
 use Rattle.link.specs.Held.{Held}
 use Rattle.readback.specs.Feeding.{board, Feed, heldAfter, recordsFed, octetsFed, Answered}
 use Rattle.readback.specs.Reading.{Stands}
-use Rattle.readback.specs.Streams.{booked}
+use Rattle.readback.specs.Streams.{justOpened}
 
 -- open, not malformed, and lent the memory of its slots
 pub record InUse (h : Held) : Type 0 where
@@ -29,7 +29,7 @@ pub data AllSized : List Feed → Type 0 where
 -- A booking just opened is in use.
 abbrev pub OpenInUse : Type 0
 OpenInUse =
-    (l : Link) (s : Settings) (pool descriptors : List ℕ) → openAnswer l s pool descriptors .number ≡ 0 → InUse (booked l s pool descriptors)
+    (l : Link) (s : Settings) (pool descriptors : List ℕ) → openAnswer l s pool descriptors .number ≡ 0 → InUse (justOpened l s pool descriptors)
 
 -- A link in use answers 0 to every receive of such sizes, and stays in use.
 abbrev pub StaysInUse : Type 0

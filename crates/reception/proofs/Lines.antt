@@ -11,32 +11,32 @@ use Rattle.framing.specs.Delimitation.{Receiver}
 use Rattle.framing.specs.Representation.{decode, wellFormed}
 use Rattle.records.specs.Promises.{LimitsInRange}
 use Rattle.board.specs.declared.Settings.{Settings}
-use Rattle.units.specs.Marks.{Mark, octetReceiver, octetMarks, lineReceiver, lineMarks}
-use Rattle.marks.specs.declared.Progress.{Progress}
+use Rattle.units.specs.Indications.{Indication, octetReceiver, octetIndications, lineReceiver, lineIndications}
+use Rattle.indications.specs.declared.Progress.{Progress}
 use Rattle.reception.specs.declared.Passed.{Passed}
-use Rattle.marks.specs.Writing.{limitsOf, Written, holding, marksDone, Able}
-use Rattle.reception.specs.Writing.{Ready, LineTaken}
-use Rattle.marks.proofs.Recording.{marks-none, marks-append}
-use Rattle.reception.proofs.Octets.{happenings-five, marks-length}
+use Rattle.indications.specs.Writing.{monitorLimits, Written, holding, indicationsDone, Able}
+use Rattle.reception.specs.Writing.{StateInRange, LineTaken}
+use Rattle.indications.proofs.Recording.{indications-none, indications-append}
+use Rattle.reception.proofs.Octets.{happenings-five, indications-length}
 
 pub receiver-append : (M : ℕ) (xs ys : List ℕ) (st : Receiver) → lineReceiver M st (xs ++ ys) ≡ lineReceiver M (lineReceiver M st xs) ys
 unfolding lineReceiver
 receiver-append M = run-append (octetReceiver M)
 
-pub marks-of-both : (M : ℕ) (xs ys : List ℕ) (st : Receiver) → lineMarks M st (xs ++ ys) ≡ lineMarks M st xs ++ lineMarks M (lineReceiver M st xs) ys
-unfolding lineReceiver lineMarks
-marks-of-both M = outs-append (octetReceiver M) (octetMarks M)
+pub indications-of-both : (M : ℕ) (xs ys : List ℕ) (st : Receiver) → lineIndications M st (xs ++ ys) ≡ lineIndications M st xs ++ lineIndications M (lineReceiver M st xs) ys
+unfolding lineReceiver lineIndications
+indications-of-both M = outs-append (octetReceiver M) (octetIndications M)
 
 module _ (s : Settings) (line : Line) (area : List ℕ) (w : Written) where
-  pub taken-none : (p : Progress) (pool descriptors out : List ℕ) → w ≡ holding p pool descriptors out → wellFormed (s .m) line area → Ready s w
+  pub taken-none : (p : Progress) (pool descriptors out : List ℕ) → w ≡ holding p pool descriptors out → wellFormed (s .m) line area → StateInRange s w
       → LineTaken s line area [] w (record { line = line; progress = p }) area (holding p pool descriptors out)
-  unfolding lineReceiver lineMarks
+  unfolding lineReceiver lineIndications
   taken-none p pool descriptors out e h r =
       record {
         receiver = refl;
         held = h;
-        written = sym e ∙ sym (marks-none s w);
-        ready = subst (Ready s) e r;
+        written = sym e ∙ sym (indications-none s w);
+        ready = subst (StateInRange s) e r;
         few = let c : p .count ≡ w .count = ap (λ (x : Written). x .count) (sym e) in omega arith;
       }
 
@@ -48,10 +48,10 @@ module _ (s : Settings) (line : Line) (area : List ℕ) (w : Written) where
         held = b .held;
         written =
             b .written
-            ∙ ap₂ (λ (x : Written) (st : Receiver). marksDone s x (lineMarks (s .m) st ys)) (a .written) (a .receiver)
-            ∙ sym (marks-append s w (lineMarks (s .m) (decode line area) xs) (lineMarks (s .m) (lineReceiver (s .m) (decode line area) xs) ys)
-            (happenings-five s (lineMarks (s .m) (decode line area) xs) (w .office)))
-            ∙ ap (marksDone s w) (sym (marks-of-both (s .m) xs ys (decode line area)));
+            ∙ ap₂ (λ (x : Written) (st : Receiver). indicationsDone s x (lineIndications (s .m) st ys)) (a .written) (a .receiver)
+            ∙ sym (indications-append s w (lineIndications (s .m) (decode line area) xs) (lineIndications (s .m) (lineReceiver (s .m) (decode line area) xs) ys)
+            (happenings-five s (lineIndications (s .m) (decode line area) xs) (w .unitMemory)))
+            ∙ ap (indicationsDone s w) (sym (indications-of-both (s .m) xs ys (decode line area)));
         ready = b .ready;
         few = omega (arith, a .few, b .few, length-append xs ys);
       }
@@ -72,7 +72,7 @@ module _ (s : Settings) (line : Line) (area : List ℕ) (w : Written) where
       subst (λ (xs : List ℕ). LineTaken s line area xs w r area′ w′) (ap (λ (n : ℕ). take n octets) e ∙ take-length octets) a
 
   pub same-out : (xs : List ℕ) (r : Passed) (area′ : List ℕ) (w′ : Written) → LineTaken s line area xs w r area′ w′ → length (w′ .out) ≡ length (w .out)
-  same-out xs r area′ w′ a = ap (λ (x : Written). length (x .out)) (a .written) ∙ marks-length s w (lineMarks (s .m) (decode line area) xs)
+  same-out xs r area′ w′ a = ap (λ (x : Written). length (x .out)) (a .written) ∙ indications-length s w (lineIndications (s .m) (decode line area) xs)
 
   -- room for the three records of the next octet
   pub room-left : (octets : List ℕ) (at : ℕ) → at < length octets → (r : Passed) (area′ : List ℕ) (w′ : Written)
@@ -81,6 +81,6 @@ module _ (s : Settings) (line : Line) (area : List ℕ) (w : Written) where
       let n : length (take at octets) ≡ at = length-take-le at octets (omega arith) in
       omega (arith, a .few, same-out (take at octets) r area′ w′ a)
 
-pub next-able : (s : Settings) (p : Progress) (pool descriptors out : List ℕ) → (7 ≤ s .m) × (s .m ≤ 278) → LimitsInRange (limitsOf s)
-    → Ready s (holding p pool descriptors out) → 16 * p .count + 48 ≤ length out → Able s p pool descriptors out
+pub next-able : (s : Settings) (p : Progress) (pool descriptors out : List ℕ) → (7 ≤ s .m) × (s .m ≤ 278) → LimitsInRange (monitorLimits s)
+    → StateInRange s (holding p pool descriptors out) → 16 * p .count + 48 ≤ length out → Able s p pool descriptors out
 next-able s p pool descriptors out m l r k = record { longest = m; limits = l; monitor = r .monitor; fits = r .fits; room = omega arith }

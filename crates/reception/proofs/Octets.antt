@@ -15,78 +15,78 @@ use Rattle.framing.specs.declared.Line.{Line}
 use Rattle.framing.specs.declared.Found.{Found}
 use Rattle.framing.specs.declared.Found.the-variants.{Nothing, Closed, Abort, Long}
 use Rattle.framing.specs.declared.Fed.{Fed}
-use Rattle.framing.specs.Delimitation.{Receiver, Finding, closed, abort, long, flagged, after, findings, Reading, reading}
+use Rattle.framing.specs.Delimitation.{Receiver, Finding, closed, abort, long, flagged, receiverAfter, findings, Reading, reading}
 use Rattle.framing.specs.Representation.{decode, wellFormed, Holds, shows, unitIn, standing, FedTo}
 use Rattle.framing.proofs.Bound.{two-findings}
 use Rattle.framing.proofs.Readings.{reading-after, reading-findings}
 use Rattle.framing.proofs.Stops.{reading-single, reading-flag, reading-shorter}
 use Rattle.records.specs.declared.Happening.{Happening}
-use Rattle.records.specs.declared.Watch.{Watch}
-use Rattle.records.specs.Record.{watched, watchAfter, recordsOf}
+use Rattle.records.specs.declared.Supervision.{Supervision}
+use Rattle.records.specs.Record.{supervised, supervisionAfter, recordsOf}
 use Rattle.records.specs.Promises.{FirstFive, none, more, LimitsInRange, MonitorInRange}
 use Rattle.records.proofs.Range.{stays-in-range}
 use Rattle.monitor.specs.declared.Limits.{Limits}
 use Rattle.board.specs.declared.Settings.{Settings}
-use Rattle.units.specs.Marks.{Mark, found, octetEnd, octetReceiver, octetMarks, lineReceiver, lineMarks}
-use Rattle.units.specs.Desk.{Office, nextOffice, happens, officeAfter, happenings}
+use Rattle.units.specs.Indications.{Indication, found, octetEnd, octetReceiver, octetIndications, lineReceiver, lineIndications}
+use Rattle.units.specs.Units.{UnitMemory, nextUnitMemory, happens, unitMemoryAfter, happenings}
 use Rattle.units.specs.Fit.{Fits}
-use Rattle.units.specs.Promises.{Allowed}
-use Rattle.units.proofs.Desks.{fit-kept, found-one, one-at-most, first-fives, happenings-append}
-use Rattle.marks.specs.declared.Progress.{Progress}
+use Rattle.units.specs.Promises.{AtMostLongest}
+use Rattle.units.proofs.UnitStates.{fit-kept, found-one, one-at-most, first-fives, happenings-append}
+use Rattle.indications.specs.declared.Progress.{Progress}
 use Rattle.reception.specs.declared.Passed.{Passed}
-use Rattle.marks.specs.Writing.{limitsOf, Written, holding, marksDone, Able, StandsIn, Shown, areaAfter}
-use Rattle.reception.specs.Writing.{Ready, LineTaken}
-use Rattle.marks.proofs.Recording.{marks-none, marks-append}
+use Rattle.indications.specs.Writing.{monitorLimits, Written, holding, indicationsDone, Able, StandsIn, Shown, areaAfter}
+use Rattle.reception.specs.Writing.{StateInRange, LineTaken}
+use Rattle.indications.proofs.Recording.{indications-none, indications-append}
 
--- ---- what marks keep
--- each finding is one that the desk can take
-pub data AllAllowed : List Mark → Type 0 where
+-- ---- what indications keep
+-- each finding is one that the unit state can take
+pub data AllAllowed : List Indication → Type 0 where
   none-left : AllAllowed []
-  one-more : {m : Mark} {ms : List Mark} → Allowed m → AllAllowed ms → AllAllowed (m ∷ ms)
+  one-more : {m : Indication} {ms : List Indication} → AtMostLongest m → AllAllowed ms → AllAllowed (m ∷ ms)
 
 five-append : (xs ys : List Happening) → FirstFive xs → FirstFive ys → FirstFive (xs ++ ys)
 five-append [] ys none g = g
 five-append (x ∷ xs) ys (more e f) g = more e (five-append xs ys f g)
 
-pub happenings-five : (s : Settings) (ms : List Mark) (o : Office) → FirstFive (happenings s o ms)
+pub happenings-five : (s : Settings) (ms : List Indication) (o : UnitMemory) → FirstFive (happenings s o ms)
 unfolding happenings
 happenings-five s [] o = none
-happenings-five s (m ∷ ms) o = five-append (happens s o m) (happenings s (nextOffice s o m) ms) (first-fives s o m) (happenings-five s ms (nextOffice s o m))
+happenings-five s (m ∷ ms) o = five-append (happens s o m) (happenings s (nextUnitMemory s o m) ms) (first-fives s o m) (happenings-five s ms (nextUnitMemory s o m))
 
-office-fits : (s : Settings) (ms : List Mark) (o : Office) → AllAllowed ms → Fits s (o .desk) (o .pool) (o .descriptors)
-    → Fits s (officeAfter s o ms .desk) (officeAfter s o ms .pool) (officeAfter s o ms .descriptors)
-unfolding officeAfter
-office-fits s [] o none-left f = f
-office-fits s (m ∷ ms) o (one-more a r) f = office-fits s ms (nextOffice s o m) r (fit-kept s o m a f)
+unit-memory-fits : (s : Settings) (ms : List Indication) (o : UnitMemory) → AllAllowed ms → Fits s (o .units) (o .pool) (o .descriptors)
+    → Fits s (unitMemoryAfter s o ms .units) (unitMemoryAfter s o ms .pool) (unitMemoryAfter s o ms .descriptors)
+unfolding unitMemoryAfter
+unit-memory-fits s [] o none-left f = f
+unit-memory-fits s (m ∷ ms) o (one-more a r) f = unit-memory-fits s ms (nextUnitMemory s o m) r (fit-kept s o m a f)
 
-watch-in-range : (l : Limits) (hs : List Happening) (w : Watch) → LimitsInRange l → MonitorInRange l (w .monitor) → MonitorInRange l (watchAfter l w hs .monitor)
-unfolding watchAfter
-watch-in-range l [] w r i = i
-watch-in-range l (h ∷ hs) w r i = watch-in-range l hs (watched l w h) r (stays-in-range l w h r i)
+supervision-in-range : (l : Limits) (hs : List Happening) (w : Supervision) → LimitsInRange l → MonitorInRange l (w .monitor) → MonitorInRange l (supervisionAfter l w hs .monitor)
+unfolding supervisionAfter
+supervision-in-range l [] w r i = i
+supervision-in-range l (h ∷ hs) w r i = supervision-in-range l hs (supervised l w h) r (stays-in-range l w h r i)
 
-found-count : (s : Settings) (fs : List Finding) (o : Office) → length (happenings s o (map found fs)) ≡ length fs
+found-count : (s : Settings) (fs : List Finding) (o : UnitMemory) → length (happenings s o (map found fs)) ≡ length fs
 unfolding happenings
 found-count s [] o = refl
 found-count s (f ∷ fs) o =
     let e = found-one s o f in
-    let r = found-count s fs (nextOffice s o (found f)) in
-    omega (arith, length-append (happens s o (found f)) (happenings s (nextOffice s o (found f)) (map found fs)))
+    let r = found-count s fs (nextUnitMemory s o (found f)) in
+    omega (arith, length-append (happens s o (found f)) (happenings s (nextUnitMemory s o (found f)) (map found fs)))
 
-pub ready-kept : (s : Settings) (w : Written) (ms : List Mark) → LimitsInRange (limitsOf s) → AllAllowed ms → Ready s w → Ready s (marksDone s w ms)
-unfolding marksDone
+pub ready-kept : (s : Settings) (w : Written) (ms : List Indication) → LimitsInRange (monitorLimits s) → AllAllowed ms → StateInRange s w → StateInRange s (indicationsDone s w ms)
+unfolding indicationsDone
 ready-kept s w ms l a r =
     record {
-      monitor = watch-in-range (limitsOf s) (happenings s (w .office) ms) (w .watch) l (r .monitor);
-      fits = office-fits s ms (w .office) a (r .fits);
+      monitor = supervision-in-range (monitorLimits s) (happenings s (w .unitMemory) ms) (w .supervision) l (r .monitor);
+      fits = unit-memory-fits s ms (w .unitMemory) a (r .fits);
     }
 
-pub founds-count : (s : Settings) (w : Written) (fs : List Finding) → marksDone s w (map found fs) .count ≡ w .count + length fs
-unfolding marksDone
-founds-count s w fs = ap (λ (n : ℕ). w .count + n) (found-count s fs (w .office))
+pub founds-count : (s : Settings) (w : Written) (fs : List Finding) → indicationsDone s w (map found fs) .count ≡ w .count + length fs
+unfolding indicationsDone
+founds-count s w fs = ap (λ (n : ℕ). w .count + n) (found-count s fs (w .unitMemory))
 
-pub marks-length : (s : Settings) (w : Written) (ms : List Mark) → length (marksDone s w ms .out) ≡ length (w .out)
-unfolding marksDone
-marks-length s w ms = length-sets (w .out) (16 * w .count) (recordsOf (limitsOf s) (w .watch) (happenings s (w .office) ms))
+pub indications-length : (s : Settings) (w : Written) (ms : List Indication) → length (indicationsDone s w ms .out) ≡ length (w .out)
+unfolding indicationsDone
+indications-length s w ms = length-sets (w .out) (16 * w .count) (recordsOf (monitorLimits s) (w .supervision) (happenings s (w .unitMemory) ms))
 
 -- ---- between two findings of an octet
 pub record Between (s : Settings) (line : Line) (area₀ : List ℕ) (octet : ℕ) (w : Written) (area pool descriptors out : List ℕ) (cur : Line) (rest left : ℕ)
@@ -94,11 +94,11 @@ pub record Between (s : Settings) (line : Line) (area₀ : List ℕ) (octet : �
   pub few : left ≤ 8
   pub held : wellFormed (s .m) cur area
   pub longest : (7 ≤ s .m) × (s .m ≤ 278)
-  pub limits : LimitsInRange (limitsOf s)
-  pub ready : Ready s (holding q pool descriptors out)
-  pub receiver : after (s .m) (decode cur area) (bitsOf left rest) ≡ octetReceiver (s .m) (decode line area₀) octet
-  pub still : marksDone s (holding q pool descriptors out) (map found (findings (s .m) (decode cur area) (bitsOf left rest)))
-      ≡ marksDone s w (map found (findings (s .m) (decode line area₀) (bitsOf 8 octet)))
+  pub limits : LimitsInRange (monitorLimits s)
+  pub ready : StateInRange s (holding q pool descriptors out)
+  pub receiver : receiverAfter (s .m) (decode cur area) (bitsOf left rest) ≡ octetReceiver (s .m) (decode line area₀) octet
+  pub still : indicationsDone s (holding q pool descriptors out) (map found (findings (s .m) (decode cur area) (bitsOf left rest)))
+      ≡ indicationsDone s w (map found (findings (s .m) (decode line area₀) (bitsOf 8 octet)))
   pub room : 16 * (q .count + length (findings (s .m) (decode cur area) (bitsOf left rest))) + 16 ≤ length out
   pub same : length out ≡ length (w .out)
 
@@ -119,7 +119,7 @@ at-start s line area pool descriptors out octet p a h r =
       same = refl;
     }
 
--- the room and the rest of what one mark needs
+-- the room and the rest of what one indication needs
 pub able : (s : Settings) (line : Line) (area₀ : List ℕ) (octet : ℕ) (w : Written) (area pool descriptors out : List ℕ) (cur : Line) (rest left : ℕ) (q : Progress)
     → Between s line area₀ octet w area pool descriptors out cur rest left q → Able s q pool descriptors out
 able s line area₀ octet w area pool descriptors out cur rest left q b =
@@ -128,7 +128,7 @@ able s line area₀ octet w area pool descriptors out cur rest left q b =
 -- ---- one turn
 map-append : (xs ys : List Finding) → map found (xs ++ ys) ≡ map found xs ++ map found ys
 map-append [] ys = refl
-map-append (x ∷ xs) ys = ap (λ (ms : List Mark). found x ∷ ms) (map-append xs ys)
+map-append (x ∷ xs) ys = ap (λ (ms : List Indication). found x ∷ ms) (map-append xs ys)
 
 -- a closed unit is at most 8M bits long
 closed-short : (M n : ℕ) (l : Line) (area : List ℕ) → M ≤ 278 → Holds M l (n + 7) area → n ≤ 2224
@@ -211,7 +211,7 @@ module _ (s : Settings) (line : Line) (area₀ : List ℕ) (octet : ℕ) (w : Wr
       omega (arith, reading-shorter M (bitsOf left rest) (decode cur area) (omega arith))
 
   module _ (q′ : Progress) (pool′ descriptors′ out′ area′ : List ℕ)
-      (e : holding q′ pool′ descriptors′ out′ ≡ marksDone s here (map found (g .found))) (ea : area′ ≡ areaAfter (fed .step .found) area₁) where
+      (e : holding q′ pool′ descriptors′ out′ ≡ indicationsDone s here (map found (g .found))) (ea : area′ ≡ areaAfter (fed .step .found) area₁) where
     after-kept : Kept M (g .state) (fed .step .line) area′
     after-kept =
         subst (Kept M (g .state) (fed .step .line)) (sym (ea ∙ ap (λ (x : Found). areaAfter x area₁) (f .step .found)))
@@ -224,17 +224,17 @@ module _ (s : Settings) (line : Line) (area₀ : List ℕ) (octet : ℕ) (w : Wr
     all-findings : g .found ++ findings M (decode (fed .step .line) area′) (bitsOf (fed .left) (fed .octet)) ≡ findings M (decode cur area) (bitsOf left rest)
     all-findings = ap (λ (x : List Finding). g .found ++ x) to-come ∙ reading-findings M (bitsOf left rest) (decode cur area)
 
-    abbrev later : List Mark
+    abbrev later : List Indication
     later = map found (findings M (decode (fed .step .line) area′) (bitsOf (fed .left) (fed .octet)))
 
-    all-done : marksDone s (holding q′ pool′ descriptors′ out′) later ≡ marksDone s here (map found (findings M (decode cur area) (bitsOf left rest)))
+    all-done : indicationsDone s (holding q′ pool′ descriptors′ out′) later ≡ indicationsDone s here (map found (findings M (decode cur area) (bitsOf left rest)))
     all-done =
-        ap (λ (x : Written). marksDone s x later) e
-        ∙ sym (marks-append s here (map found (g .found)) later (happenings-five s (map found (g .found)) (here .office)))
-        ∙ ap (marksDone s here) (sym (map-append (g .found) (findings M (decode (fed .step .line) area′) (bitsOf (fed .left) (fed .octet)))) ∙ ap (map found) all-findings)
+        ap (λ (x : Written). indicationsDone s x later) e
+        ∙ sym (indications-append s here (map found (g .found)) later (happenings-five s (map found (g .found)) (here .unitMemory)))
+        ∙ ap (indicationsDone s here) (sym (map-append (g .found) (findings M (decode (fed .step .line) area′) (bitsOf (fed .left) (fed .octet)))) ∙ ap (map found) all-findings)
 
     same-out : length out′ ≡ length out
-    same-out = ap (λ (x : Written). length (x .out)) e ∙ marks-length s here (map found (g .found))
+    same-out = ap (λ (x : Written). length (x .out)) e ∙ indications-length s here (map found (g .found))
 
     counted : q′ .count ≡ q .count + length (g .found)
     counted = ap (λ (x : Written). x .count) e ∙ founds-count s here (g .found)
@@ -247,10 +247,10 @@ module _ (s : Settings) (line : Line) (area₀ : List ℕ) (octet : ℕ) (w : Wr
           longest = b .longest;
           limits = b .limits;
           ready =
-              subst (Ready s) (sym e)
+              subst (StateInRange s) (sym e)
               (ready-kept s here (map found (g .found)) (b .limits) (all-allowed M (fed .step .line) (g .found) area₁ (b .longest .1) single holds-shown) (b .ready));
           receiver =
-              ap₂ (λ (x : Receiver) (y : List Bool). after M x y) (after-kept .is) (f .rest)
+              ap₂ (λ (x : Receiver) (y : List Bool). receiverAfter M x y) (after-kept .is) (f .rest)
               ∙ reading-after M (bitsOf left rest) (decode cur area) ∙ b .receiver;
           still = all-done ∙ b .still;
           room =
@@ -262,25 +262,25 @@ module _ (s : Settings) (line : Line) (area₀ : List ℕ) (octet : ℕ) (w : Wr
         }
 
 -- ---- the end of the octet
-pub single-octet : (M : ℕ) (st : Receiver) (octet : ℕ) → lineMarks M st (octet ∷ []) ≡ octetMarks M st octet
-unfolding lineMarks
-single-octet M st octet = append-nil (octetMarks M st octet)
+pub single-octet : (M : ℕ) (st : Receiver) (octet : ℕ) → lineIndications M st (octet ∷ []) ≡ octetIndications M st octet
+unfolding lineIndications
+single-octet M st octet = append-nil (octetIndications M st octet)
 
 -- "At most three records come from one line octet."
-pub three : (s : Settings) (M : ℕ) (st : Receiver) (octet : ℕ) (o : Office) → 7 ≤ M → length (happenings s o (octetMarks M st octet)) ≤ 3
+pub three : (s : Settings) (M : ℕ) (st : Receiver) (octet : ℕ) (o : UnitMemory) → 7 ≤ M → length (happenings s o (octetIndications M st octet)) ≤ 3
 unfolding happenings
 three s M st octet o h =
     let fs = findings M st (bitsOf 8 octet) in
-    let a : length (happenings s o (octetMarks M st octet)) ≡ length (happenings s o (map found fs)) + length (happenings s (officeAfter s o (map found fs)) (octetEnd ∷ [])) =
+    let a : length (happenings s o (octetIndications M st octet)) ≡ length (happenings s o (map found fs)) + length (happenings s (unitMemoryAfter s o (map found fs)) (octetEnd ∷ [])) =
     ap length (happenings-append s (map found fs) (octetEnd ∷ []) o)
-    ∙ length-append (happenings s o (map found fs)) (happenings s (officeAfter s o (map found fs)) (octetEnd ∷ [])) in
-    let b : length (happenings s (officeAfter s o (map found fs)) (octetEnd ∷ [])) ≡ length (happens s (officeAfter s o (map found fs)) octetEnd) =
-    ap length (append-nil (happens s (officeAfter s o (map found fs)) octetEnd)) in
-    omega (arith, found-count s fs o, one-at-most s (officeAfter s o (map found fs)) octetEnd, two-findings M st octet h)
+    ∙ length-append (happenings s o (map found fs)) (happenings s (unitMemoryAfter s o (map found fs)) (octetEnd ∷ [])) in
+    let b : length (happenings s (unitMemoryAfter s o (map found fs)) (octetEnd ∷ [])) ≡ length (happens s (unitMemoryAfter s o (map found fs)) octetEnd) =
+    ap length (append-nil (happens s (unitMemoryAfter s o (map found fs)) octetEnd)) in
+    omega (arith, found-count s fs o, one-at-most s (unitMemoryAfter s o (map found fs)) octetEnd, two-findings M st octet h)
 
-three-more : (s : Settings) (M : ℕ) (st : Receiver) (octet : ℕ) (w : Written) → 7 ≤ M → marksDone s w (octetMarks M st octet) .count ≤ w .count + 3
-unfolding marksDone
-three-more s M st octet w h = omega (arith, three s M st octet (w .office) h)
+three-more : (s : Settings) (M : ℕ) (st : Receiver) (octet : ℕ) (w : Written) → 7 ≤ M → indicationsDone s w (octetIndications M st octet) .count ≤ w .count + 3
+unfolding indicationsDone
+three-more s M st octet w h = omega (arith, three s M st octet (w .unitMemory) h)
 
 module _ (s : Settings) (line : Line) (area₀ : List ℕ) (octet : ℕ) (w : Written) (area pool descriptors out : List ℕ) (cur : Line) (rest left : ℕ) (q : Progress)
     (b : Between s line area₀ octet w area pool descriptors out cur rest left q) (z : left ≡ 0) where
@@ -288,27 +288,27 @@ module _ (s : Settings) (line : Line) (area₀ : List ℕ) (octet : ℕ) (w : Wr
   unfolding bitsOf
   no-bits = ap (λ (n : ℕ). bitsOf n rest) z
 
-  pub done-bits : holding q pool descriptors out ≡ marksDone s w (map found (findings (s .m) (decode line area₀) (bitsOf 8 octet)))
+  pub done-bits : holding q pool descriptors out ≡ indicationsDone s w (map found (findings (s .m) (decode line area₀) (bitsOf 8 octet)))
   done-bits =
-      sym (marks-none s (holding q pool descriptors out))
-      ∙ ap (λ (x : List Bool). marksDone s (holding q pool descriptors out) (map found (findings (s .m) (decode cur area) x))) (sym no-bits) ∙ b .still
+      sym (indications-none s (holding q pool descriptors out))
+      ∙ ap (λ (x : List Bool). indicationsDone s (holding q pool descriptors out) (map found (findings (s .m) (decode cur area) x))) (sym no-bits) ∙ b .still
 
-  pub ended : (r : Progress) (out′ : List ℕ) → holding r pool descriptors out′ ≡ marksDone s (holding q pool descriptors out) (octetEnd ∷ [])
+  pub ended : (r : Progress) (out′ : List ℕ) → holding r pool descriptors out′ ≡ indicationsDone s (holding q pool descriptors out) (octetEnd ∷ [])
       → LineTaken s line area₀ (octet ∷ []) w (record { line = cur; progress = r }) area (holding r pool descriptors out′)
   unfolding lineReceiver
   ended r out′ e =
       record {
-        receiver = ap (after (s .m) (decode cur area)) (sym no-bits) ∙ b .receiver;
+        receiver = ap (receiverAfter (s .m) (decode cur area)) (sym no-bits) ∙ b .receiver;
         held = b .held;
-        written = whole ∙ ap (marksDone s w) (sym (single-octet (s .m) (decode line area₀) octet));
+        written = whole ∙ ap (indicationsDone s w) (sym (single-octet (s .m) (decode line area₀) octet));
         ready =
-            subst (Ready s) (sym e)
+            subst (StateInRange s) (sym e)
             (ready-kept s (holding q pool descriptors out) (octetEnd ∷ []) (b .limits) (one-more {m = octetEnd} (omega arith) none-left) (b .ready));
         few = subst (λ (x : Written). x .count ≤ w .count + 3) (sym whole) (three-more s (s .m) (decode line area₀) octet w (b .longest .0));
       }
     where
-      whole : holding r pool descriptors out′ ≡ marksDone s w (octetMarks (s .m) (decode line area₀) octet)
+      whole : holding r pool descriptors out′ ≡ indicationsDone s w (octetIndications (s .m) (decode line area₀) octet)
       whole =
-          e ∙ ap (λ (x : Written). marksDone s x (octetEnd ∷ [])) done-bits
-          ∙ sym (marks-append s w (map found (findings (s .m) (decode line area₀) (bitsOf 8 octet))) (octetEnd ∷ [])
-          (happenings-five s (map found (findings (s .m) (decode line area₀) (bitsOf 8 octet))) (w .office)))
+          e ∙ ap (λ (x : Written). indicationsDone s x (octetEnd ∷ [])) done-bits
+          ∙ sym (indications-append s w (map found (findings (s .m) (decode line area₀) (bitsOf 8 octet))) (octetEnd ∷ [])
+          (happenings-five s (map found (findings (s .m) (decode line area₀) (bitsOf 8 octet))) (w .unitMemory)))

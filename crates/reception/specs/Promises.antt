@@ -30,4 +30,4 @@ ThreeEach = (s : Settings) (b : Board) (line : List ℕ) → 7 ≤ s .m → leng
 
 -- and the good count stays the sum of units handed over, dropped and lost.
 abbrev pub SumOverLine : Type 0
-SumOverLine = (s : Settings) (b : Board) (line : List ℕ) → Sums (b .office .desk .counts) → Sums (boardAfter s b line .office .desk .counts)
+SumOverLine = (s : Settings) (b : Board) (line : List ℕ) → Sums (b .unitMemory .units .counts) → Sums (boardAfter s b line .unitMemory .units .counts)

@@ -8,19 +8,19 @@ use Rattle.framing.specs.declared.Line.{Line}
 use Rattle.framing.specs.Representation.{decode, wellFormed}
 use Rattle.board.specs.declared.Settings.{Settings}
 use Rattle.units.specs.Fit.{Fits}
-use Rattle.units.specs.Marks.{lineReceiver, lineMarks}
-use Rattle.marks.specs.Writing.{limitsOf, Written, marksDone}
+use Rattle.units.specs.Indications.{lineReceiver, lineIndications}
+use Rattle.indications.specs.Writing.{monitorLimits, Written, indicationsDone}
 use Rattle.reception.specs.declared.Passed.{Passed}
 
 -- what `Able` asks, of what the code holds, its room apart
-pub record Ready (s : Settings) (w : Written) : Type 0 where
-  pub monitor : MonitorInRange (limitsOf s) (w .watch .monitor)
-  pub fits : Fits s (w .office .desk) (w .office .pool) (w .office .descriptors)
+pub record StateInRange (s : Settings) (w : Written) : Type 0 where
+  pub monitor : MonitorInRange (monitorLimits s) (w .supervision .monitor)
+  pub fits : Fits s (w .unitMemory .units) (w .unitMemory .pool) (w .unitMemory .descriptors)
 
--- what line octets do: the receiver and the marks of the definition, and all that the next ones need; one octet brings three records at most
+-- what line octets do: the receiver and the indications of the definition, and all that the next ones need; one octet brings three records at most
 pub record LineTaken (s : Settings) (line : Line) (area : List ℕ) (octets : List ℕ) (w : Written) (r : Passed) (area′ : List ℕ) (w′ : Written) : Type 0 where
   pub receiver : decode (r .line) area′ ≡ lineReceiver (s .m) (decode line area) octets
   pub held : wellFormed (s .m) (r .line) area′
-  pub written : w′ ≡ marksDone s w (lineMarks (s .m) (decode line area) octets)
-  pub ready : Ready s w′
+  pub written : w′ ≡ indicationsDone s w (lineIndications (s .m) (decode line area) octets)
+  pub ready : StateInRange s w′
   pub few : w′ .count ≤ w .count + 3 * length octets

@@ -1,16 +1,16 @@
 // The receiver's path through one call: line octets in; units to slots, events to the monitor, records out.
 use board::Settings;
 use framing::Line;
-use marks::Progress;
+use indications::Progress;
 ghost use mathlib.Core.List.{[], _∷_};
 ghost use Prim.Native.Nat.{_+_, _*_, _≤_};
 ghost use lib.ListN.{length};
 ghost use Rattle.records.specs.Promises.{LimitsInRange};
 ghost use Rattle.framing.specs.Representation.{wellFormed};
-ghost use Rattle.marks.specs.Writing.{limitsOf, Able, holding};
-ghost use Rattle.reception.specs.Writing.{Ready, LineTaken};
+ghost use Rattle.indications.specs.Writing.{monitorLimits, Able, holding};
+ghost use Rattle.reception.specs.Writing.{StateInRange, LineTaken};
 
-// Desk, monitor and records written, with the receiver's small state.
+// Unit state, monitor and records written, with the receiver's small state.
 pub struct Passed {
     pub line: Line,
     pub progress: Progress,
@@ -42,7 +42,7 @@ fn take_octet(
         rest = fed.octet;
         left = fed.left;
         let found = step.found;
-        q = marks::take_found(
+        q = indications::take_found(
             s,
             q,
             found,
@@ -52,7 +52,7 @@ fn take_octet(
             &mut *out,
         );
     }
-    let done = marks::end_octet(s, q, &mut *out);
+    let done = indications::end_octet(s, q, &mut *out);
     Passed {
         line: cur,
         progress: done,
@@ -70,7 +70,7 @@ pub fn take_line(
     descriptors: &mut [u16],
     out: &mut [u8],
 ) -> Passed
-    requires { ⌜ (7 ≤ s .m) × (s .m ≤ 278) × LimitsInRange (limitsOf s) × Ready s (holding p (now pool) (now descriptors) (now out)) ⌝ }
+    requires { ⌜ (7 ≤ s .m) × (s .m ≤ 278) × LimitsInRange (monitorLimits s) × StateInRange s (holding p (now pool) (now descriptors) (now out)) ⌝ }
     requires { ⌜ wellFormed (s .m) line (now area) × (16 * p .count + 48 * length (now octets) ≤ length (now out)) × (length (now octets) ≤ 1024) ⌝ }
     ensures { λ r. ⌜ LineTaken s line (now (area .entry)) (now (octets .entry)) (holding p (now (pool .entry)) (now (descriptors .entry)) (now (out .entry))) r (now (area .exit)) (holding (r .progress) (now (pool .exit)) (now (descriptors .exit)) (now (out .exit))) ⌝ }
 {

@@ -1,5 +1,5 @@
 -- The laws of happenings and records.
 pub mod Writing
 pub mod Noting
-pub mod Watching
+pub mod Supervising
 pub mod Range

@@ -10,9 +10,9 @@ use Rattle.monitor.specs.declared.Limits.{Limits}
 use Rattle.monitor.specs.declared.Stepped.{Stepped}
 use Rattle.monitor.specs.Monitor.{step}
 use Rattle.records.specs.declared.Happening.{Happening}
-use Rattle.records.specs.declared.Watch.{Watch}
+use Rattle.records.specs.declared.Supervision.{Supervision}
 use Rattle.records.specs.declared.Noted.{Noted}
-use Rattle.records.specs.Happening.{alarmBit, raises, watching, noted}
+use Rattle.records.specs.Happening.{alarmBit, raises, notedStep, noted}
 
 -- an alarm is raised exactly if its bit is not zero
 bit-raises : (a : Alarm) → not (eqb (alarmBit a) 0) ≡ raises a
@@ -21,16 +21,16 @@ bit-raises Suer = refl
 bit-raises Aerm = refl
 
 abbrev pub notedOf : ℕ → Stepped → ℕ → Noted
-notedOf own s bit = record { watch = record { monitor = s .monitor; events = bitOr own bit }; raised = not (eqb bit 0) }
+notedOf own s bit = record { supervision = record { monitor = s .monitor; events = bitOr own bit }; raised = not (eqb bit 0) }
 
-module _ (l : Limits) (w : Watch) (h : Happening) where
-  pub noted-event : h .event ≡ true → noted l w h ≡ watching (bitOr (w .events) (h .bits)) (step l (w .monitor) (h .errored))
+module _ (l : Limits) (w : Supervision) (h : Happening) where
+  pub noted-event : h .event ≡ true → noted l w h ≡ notedStep (bitOr (w .events) (h .bits)) (step l (w .monitor) (h .errored))
   unfolding noted
   noted-event e = rw e
 
   pub noted-none :
       h .event ≡ false
-      → noted l w h ≡ record { watch = record { monitor = w .monitor; events = bitOr (w .events) (h .bits) }; raised = false }
+      → noted l w h ≡ record { supervision = record { monitor = w .monitor; events = bitOr (w .events) (h .bits) }; raised = false }
   unfolding noted
   noted-none e = rw e
 
@@ -38,7 +38,7 @@ module _ (l : Limits) (w : Watch) (h : Happening) where
       → notedOf (bitOr (w .events) (h .bits)) s bit ≡ noted l w h
   event-way s bit e q b =
       let own : ℕ = bitOr (w .events) (h .bits) in
-      ap (notedOf own s) b ∙ ap (withRaised own s) (bit-raises (s .alarm)) ∙ ap (watching own) q ∙ sym (noted-event e)
+      ap (notedOf own s) b ∙ ap (withRaised own s) (bit-raises (s .alarm)) ∙ ap (notedStep own) q ∙ sym (noted-event e)
     where
       withRaised : ℕ → Stepped → Bool → Noted
-      withRaised own s r = record { watch = record { monitor = s .monitor; events = bitOr own (alarmBit (s .alarm)) }; raised = r }
+      withRaised own s r = record { supervision = record { monitor = s .monitor; events = bitOr own (alarmBit (s .alarm)) }; raised = r }

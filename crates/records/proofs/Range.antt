@@ -15,7 +15,7 @@ use Rattle.monitor.specs.declared.Monitor.{Monitor}
 use Rattle.monitor.specs.declared.Limits.{Limits}
 use Rattle.monitor.specs.Monitor.{monitorOf, gives, pick, failing, aligning, step}
 use Rattle.monitor.proofs.Steps.{step-failing, step-aligning, step-off-or-idle}
-use Rattle.records.specs.Record.{watched}
+use Rattle.records.specs.Record.{supervised}
 use Rattle.records.specs.Promises.{LimitsInRange, MonitorInRange, StaysInRange, RangeTakes}
 use Rattle.records.proofs.Noting.{noted-event, noted-none}
 
@@ -56,9 +56,9 @@ module _ (l : Limits) (r : LimitsInRange l) where
 pub stays-in-range : StaysInRange
 stays-in-range l w h r i = go (h .event) refl
   where
-    go : (b : Bool) → h .event ≡ b → MonitorInRange l (watched l w h .monitor)
-    go true e = rw (noted-event l w h e, watched) (step-in l r (w .monitor) (h .errored) i)
-    go false e = rw (noted-none l w h e, watched) i
+    go : (b : Bool) → h .event ≡ b → MonitorInRange l (supervised l w h .monitor)
+    go true e = rw (noted-event l w h e, supervised) (step-in l r (w .monitor) (h .errored) i)
+    go false e = rw (noted-none l w h e, supervised) i
 
 pub range-takes : RangeTakes
 range-takes l m r i = (go (m .mode) refl, omega (arith, r .d-high, i .number))

@@ -9,7 +9,7 @@ use Rattle.monitor.specs.declared.Limits.{Limits}
 use Rattle.monitor.specs.declared.Stepped.{Stepped}
 use Rattle.monitor.specs.Monitor.{step}
 use Rattle.records.specs.declared.Happening.{Happening}
-use Rattle.records.specs.declared.Watch.{Watch}
+use Rattle.records.specs.declared.Supervision.{Supervision}
 use Rattle.records.specs.declared.Noted.{Noted}
 
 -- "Event bits, kept until cleared: [..] 2 SUER, 3 AERM"
@@ -28,11 +28,11 @@ abbrev pub pick : Bool → Noted → Noted → Noted
 pick true a b = a
 pick false a b = b
 
-abbrev pub watching : ℕ → Stepped → Noted
-watching own s = record { watch = record { monitor = s .monitor; events = bitOr own (alarmBit (s .alarm)) }; raised = raises (s .alarm) }
+abbrev pub notedStep : ℕ → Stepped → Noted
+notedStep own s = record { supervision = record { monitor = s .monitor; events = bitOr own (alarmBit (s .alarm)) }; raised = raises (s .alarm) }
 
 -- "The monitor takes one event, errored or not", if the happening is one; its own event bits and the alarm's are set
-unfoldable pub noted : Limits → Watch → Happening → Noted
+unfoldable pub noted : Limits → Supervision → Happening → Noted
 noted l w h =
-    pick (h .event) (watching (bitOr (w .events) (h .bits)) (step l (w .monitor) (h .errored)))
-    (record { watch = record { monitor = w .monitor; events = bitOr (w .events) (h .bits) }; raised = false })
+    pick (h .event) (notedStep (bitOr (w .events) (h .bits)) (step l (w .monitor) (h .errored)))
+    (record { supervision = record { monitor = w .monitor; events = bitOr (w .events) (h .bits) }; raised = false })

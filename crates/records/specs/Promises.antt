@@ -11,9 +11,9 @@ use Rattle.monitor.specs.declared.Mode.the-variants.{Off, Failure, Alignment, I
 use Rattle.monitor.specs.declared.Monitor.{Monitor}
 use Rattle.monitor.specs.declared.Limits.{Limits}
 use Rattle.records.specs.declared.Happening.{Happening}
-use Rattle.records.specs.declared.Watch.{Watch}
+use Rattle.records.specs.declared.Supervision.{Supervision}
 use Rattle.records.specs.Happening.{noted}
-use Rattle.records.specs.Record.{low-high, recordOf, watched, recorded, watchAfter, recordsOf}
+use Rattle.records.specs.Record.{low-high, recordOf, supervised, recorded, supervisionAfter, recordsOf}
 
 -- ---- One record
 -- each happening shows five octets, as its type in the code has it
@@ -33,32 +33,32 @@ OctetThirteen =
 -- "4-5 monitor count after it"
 abbrev pub CountAfter : Type 0
 CountAfter =
-    (l : Limits) (w : Watch) (h : Happening) → take 2 (drop 4 (recorded l w h)) ≡ low-high (watched l w h .monitor .count)
+    (l : Limits) (w : Supervision) (h : Happening) → take 2 (drop 4 (recorded l w h)) ≡ low-high (supervised l w h .monitor .count)
 
 -- A happening that is no event leaves the monitor as it is and raises nothing.
 abbrev pub NoEvent : Type 0
 NoEvent =
-    (l : Limits) (w : Watch) (h : Happening) → h .event ≡ false
-    → (watched l w h .monitor ≡ w .monitor) × (noted l w h .raised ≡ false)
+    (l : Limits) (w : Supervision) (h : Happening) → h .event ≡ false
+    → (supervised l w h .monitor ≡ w .monitor) × (noted l w h .raised ≡ false)
 
 -- ---- Records in a row
 -- Happenings that come in two parts are watched and recorded as one list.
-abbrev pub WatchAppend : Type 0
-WatchAppend = (l : Limits) (w : Watch) (xs ys : List Happening) → watchAfter l w (xs ++ ys) ≡ watchAfter l (watchAfter l w xs) ys
+abbrev pub SupervisionAppend : Type 0
+SupervisionAppend = (l : Limits) (w : Supervision) (xs ys : List Happening) → supervisionAfter l w (xs ++ ys) ≡ supervisionAfter l (supervisionAfter l w xs) ys
 
 abbrev pub RecordsAppend : Type 0
 RecordsAppend =
-    (l : Limits) (w : Watch) (xs ys : List Happening)
-    → recordsOf l w (xs ++ ys) ≡ recordsOf l w xs ++ recordsOf l (watchAfter l w xs) ys
+    (l : Limits) (w : Supervision) (xs ys : List Happening)
+    → recordsOf l w (xs ++ ys) ≡ recordsOf l w xs ++ recordsOf l (supervisionAfter l w xs) ys
 
 abbrev pub RecordsLength : Type 0
-RecordsLength = (l : Limits) (w : Watch) (hs : List Happening) → FirstFive hs → length (recordsOf l w hs) ≡ 16 * length hs
+RecordsLength = (l : Limits) (w : Supervision) (hs : List Happening) → FirstFive hs → length (recordsOf l w hs) ≡ 16 * length hs
 
 -- One record written at its place, then those after it, is all of them written there.
 abbrev pub RecordByRecord : Type 0
 RecordByRecord =
-    (l : Limits) (w : Watch) (h : Happening) (hs : List Happening) (out : List ℕ) (n : ℕ) → length (h .first) ≡ 5
-    → sets (sets out (16 * n) (recorded l w h)) (16 * (n + 1)) (recordsOf l (watched l w h) hs) ≡ sets out (16 * n) (recordsOf l w (h ∷ hs))
+    (l : Limits) (w : Supervision) (h : Happening) (hs : List Happening) (out : List ℕ) (n : ℕ) → length (h .first) ≡ 5
+    → sets (sets out (16 * n) (recorded l w h)) (16 * (n + 1)) (recordsOf l (supervised l w h) hs) ≡ sets out (16 * n) (recordsOf l w (h ∷ hs))
 
 -- ---- Numbers in range
 -- T, D and A, each 1 to 1,024
@@ -85,8 +85,8 @@ pub record MonitorInRange (l : Limits) (m : Monitor) : Type 0 where
 -- A happening leaves a monitor in range in range,
 abbrev pub StaysInRange : Type 0
 StaysInRange =
-    (l : Limits) (w : Watch) (h : Happening) → LimitsInRange l → MonitorInRange l (w .monitor)
-    → MonitorInRange l (watched l w h .monitor)
+    (l : Limits) (w : Supervision) (h : Happening) → LimitsInRange l → MonitorInRange l (w .monitor)
+    → MonitorInRange l (supervised l w h .monitor)
 
 -- and a monitor in range is one that can take a happening.
 abbrev pub RangeTakes : Type 0

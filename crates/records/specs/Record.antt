@@ -6,7 +6,7 @@ use Rattle.bits.specs.Octets.{worth}
 use Rattle.bits.specs.Machine.{run, outs}
 use Rattle.monitor.specs.declared.Limits.{Limits}
 use Rattle.records.specs.declared.Happening.{Happening}
-use Rattle.records.specs.declared.Watch.{Watch}
+use Rattle.records.specs.declared.Supervision.{Supervision}
 use Rattle.records.specs.Happening.{noted}
 
 -- a number of sixteen bits as two octets
@@ -20,16 +20,16 @@ recordOf h count raised =
     (h .kind ∷ worth (h .lost) ∷ [])
     ++ (low-high (h .length) ++ (low-high count ++ (low-high (h .good) ++ (h .first ++ (worth raised ∷ 0 ∷ 0 ∷ [])))))
 
--- the watch after a happening, and its record
-abbrev pub watched : Limits → Watch → Happening → Watch
-watched l w h = noted l w h .watch
+-- the supervision after a happening, and its record
+abbrev pub supervised : Limits → Supervision → Happening → Supervision
+supervised l w h = noted l w h .supervision
 
-abbrev pub recorded : Limits → Watch → Happening → List ℕ
-recorded l w h = recordOf h (noted l w h .watch .monitor .count) (noted l w h .raised)
+abbrev pub recorded : Limits → Supervision → Happening → List ℕ
+recorded l w h = recordOf h (noted l w h .supervision .monitor .count) (noted l w h .raised)
 
--- the watch after happenings, and their records
-unfoldable pub watchAfter : Limits → Watch → List Happening → Watch
-watchAfter l = run (watched l)
+-- the supervision after happenings, and their records
+unfoldable pub supervisionAfter : Limits → Supervision → List Happening → Supervision
+supervisionAfter l = run (supervised l)
 
-unfoldable pub recordsOf : Limits → Watch → List Happening → List ℕ
-recordsOf l = outs (watched l) (recorded l)
+unfoldable pub recordsOf : Limits → Supervision → List Happening → List ℕ
+recordsOf l = outs (supervised l) (recorded l)

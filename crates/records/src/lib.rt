@@ -26,14 +26,14 @@ pub struct Happening {
 }
 
 // The monitor and the event bits.
-pub struct Watch {
+pub struct Supervision {
     pub monitor: Monitor,
     pub events: u16,
 }
 
-// What a happening leaves: the watch, and whether it raised SUER or AERM.
+// What a happening leaves: the supervision, and whether it raised SUER or AERM.
 pub struct Noted {
-    pub watch: Watch,
+    pub supervision: Supervision,
     pub raised: bool,
 }
 
@@ -49,19 +49,19 @@ fn alarm_bit(alarm: Alarm) -> u16
 }
 
 // One happening: the monitor takes it if it is an event; the event bits are kept and those of the happening and of an alarm are set.
-pub fn note(limits: Limits, watch: Watch, h: Happening) -> Noted
-    requires { ⌜ (watch .monitor .count < 65535) × (watch .monitor .number < 65535) ⌝ }
-    ensures { λ r. ⌜ r ≡ noted limits watch h ⌝ }
+pub fn note(limits: Limits, supervision: Supervision, h: Happening) -> Noted
+    requires { ⌜ (supervision .monitor .count < 65535) × (supervision .monitor .number < 65535) ⌝ }
+    ensures { λ r. ⌜ r ≡ noted limits supervision h ⌝ }
 {
-    let m = watch.monitor;
-    let own = watch.events | h.bits;
+    let m = supervision.monitor;
+    let own = supervision.events | h.bits;
     if h.event {
         let s = m.step(limits, h.errored);
         let next = s.monitor;
         let alarm = s.alarm;
         let bit = alarm_bit(alarm);
         return Noted {
-            watch: Watch {
+            supervision: Supervision {
                 monitor: next,
                 events: own | bit,
             },
@@ -69,7 +69,7 @@ pub fn note(limits: Limits, watch: Watch, h: Happening) -> Noted
         };
     }
     Noted {
-        watch: Watch {
+        supervision: Supervision {
             monitor: m,
             events: own,
         },

@@ -1,7 +1,7 @@
 -- The laws of sending.
 pub mod Puttings
 pub mod Stuffs
-pub mod Turns
+pub mod PutSteps
 pub mod Units
 pub mod ReadBack
 pub mod Sent

@@ -12,7 +12,7 @@ use Rattle.bits.proofs.Digits.{length-bitsOf, all-back, value-back, octetOf-lt,
 use Rattle.bits.proofs.Whole.{length-whole, length-after, whole-few, after-few, whole-eight, after-eight, whole-append, after-append, together}
 use Rattle.bits.proofs.Writing.{sets-append}
 use Rattle.sending.specs.declared.Tx.{Tx}
-use Rattle.sending.specs.Packing.{waiting, octetsOut, stillWaiting, afterBits, written, Puts, Ready, Room}
+use Rattle.sending.specs.Packing.{waiting, octetsOut, stillWaiting, afterBits, areaPut, Puts, TxInRange, Room}
 use Rattle.sending.specs.Promises.{NothingLost}
 
 pub length-waiting : (t : Tx) → length (waiting t) ≡ t .count
@@ -26,7 +26,7 @@ nothing-lost t bs = (together (waiting t ++ bs), omega (arith, length-after (wai
 pub waiting-after : (t : Tx) (bs : List Bool) (ones : ℕ) → waiting (afterBits t bs ones) ≡ stillWaiting t bs
 waiting-after t bs ones = all-back (length (stillWaiting t bs)) (stillWaiting t bs) refl
 
-pub ready-after : (t : Tx) (bs : List Bool) (ones : ℕ) → ones ≤ 4 → Ready (afterBits t bs ones)
+pub ready-after : (t : Tx) (bs : List Bool) (ones : ℕ) → ones ≤ 4 → TxInRange (afterBits t bs ones)
 ready-after t bs ones h = record { few = nothing-lost t bs .1; low = octetOf-lt (stillWaiting t bs); short = h }
 
 -- eight for each octet out and one for each waiting bit: each bit adds one
@@ -55,12 +55,12 @@ module _ (t : Tx) (xs ys : List Bool) (ones : ℕ) where
       omega (arith, ap length out-append, length-append (octetsOut t xs) (octetsOut (afterBits t xs ones) ys)) in
       ap₂ {C = Tx} (λ (k : ℕ) (w : List Bool). record { at = k; count = length w; wait = octetOf w; ones = end }) a (sym wait-append)
 
-pub written-append : (out : List ℕ) (t : Tx) (xs ys : List Bool) (ones : ℕ) → written (written out t xs) (afterBits t xs ones) ys ≡ written out t (xs ++ ys)
+pub written-append : (out : List ℕ) (t : Tx) (xs ys : List Bool) (ones : ℕ) → areaPut (areaPut out t xs) (afterBits t xs ones) ys ≡ areaPut out t (xs ++ ys)
 written-append out t xs ys ones =
     sym (sets-append (octetsOut t xs) (octetsOut (afterBits t xs ones) ys) out (t .at)) ∙ ap (sets out (t .at)) (sym (out-append t xs ys ones))
 
 -- ---- no bits, and one
-module _ (t : Tx) (g : Ready t) where
+module _ (t : Tx) (g : TxInRange t) where
   small : length (waiting t ++ []) < 8
   small = omega (arith, length-append (waiting t) [], length-waiting t, g .few)
 
@@ -83,7 +83,7 @@ module _ (t : Tx) (g : Ready t) where
           → _≡_ {A = Tx} (record { at = a; count = c; wait = e; ones = ones }) (record { at = b; count = d; wait = f; ones = ones })
       ap₃ p q r = λ i. record { at = p i; count = q i; wait = r i; ones = ones }
 
-  pub written-none : (out : List ℕ) → out ≡ written out t []
+  pub written-none : (out : List ℕ) → out ≡ areaPut out t []
   written-none out = ap (sets out (t .at)) (sym none-out)
 
   module _ (b : Bool) where

@@ -11,20 +11,20 @@ use lib.ListN.{length, take, replicate, length-append}
 use lib.Seq.{append-snoc, take-append-seam}
 use Rattle.bits.specs.Machine.{run-append, outs-append}
 use Rattle.bits.proofs.Digits.{snoc-length}
-use Rattle.framing.specs.Delimitation.{Receiver, Finding, closed, inside, flagged, unit, gather, stepBit, next, finds, after, findings}
+use Rattle.framing.specs.Delimitation.{Receiver, Finding, closed, inside, flagged, unit, gather, stepBit, next, finds, receiverAfter, findings}
 use Rattle.sending.specs.Stuffing.{onesAfter, zeroAfter, stuffed, onesOver, onLine}
 use Rattle.sending.specs.Promises.{ReadBack}
 use Rattle.sending.proofs.Stuffs.{after-le, over-le}
 
 -- a receiver reads bits and finds nothing on the way
 pub record Quietly (M : ℕ) (s : Receiver) (bs : List Bool) (s′ : Receiver) : Type 0 where
-  pub state : after M s bs ≡ s′
+  pub state : receiverAfter M s bs ≡ s′
   pub nothing : findings M s bs ≡ []
 
 quietly-append : (M : ℕ) (s s′ s″ : Receiver) (xs ys : List Bool) → Quietly M s xs s′ → Quietly M s′ ys s″ → Quietly M s (xs ++ ys) s″
 quietly-append M s s′ s″ xs ys p q =
     record {
-      state = run-append (next M) xs ys s ∙ ap (λ (x : Receiver). after M x ys) (p .state) ∙ q .state;
+      state = run-append (next M) xs ys s ∙ ap (λ (x : Receiver). receiverAfter M x ys) (p .state) ∙ q .state;
       nothing =
           outs-append (next M) (finds M) xs ys s
           ∙ ap₂ (λ (a b : List Finding). a ++ b) (p .nothing) (ap (λ (x : Receiver). findings M x ys) (p .state) ∙ q .nothing);
@@ -117,7 +117,7 @@ pub record ClosesLast (M : ℕ) (u : List Bool) : Type 0 where
   pub quiet : List Bool
   pub is : onLine u ≡ quiet ++ (false ∷ [])
   pub nothing : findings M flagged quiet ≡ []
-  pub last : stepBit M (after M flagged quiet) false ≡ (flagged, closed u ∷ [])
+  pub last : stepBit M (receiverAfter M flagged quiet) false ≡ (flagged, closed u ∷ [])
 
 pub closes-last : (M : ℕ) (u : List Bool) → 0 < length u → length u ≤ 8 * M → ClosesLast M u
 closes-last M u h k =
@@ -135,7 +135,7 @@ closes-last M u h k =
 pub read-back : ReadBack
 read-back M u h k =
     let c = closes-last M u h k in (
-      ap (after M flagged) (c .is) ∙ run-append (next M) (c .quiet) (false ∷ []) flagged ∙ ap (λ (st : Receiver × List Finding). st .0) (c .last),
+      ap (receiverAfter M flagged) (c .is) ∙ run-append (next M) (c .quiet) (false ∷ []) flagged ∙ ap (λ (st : Receiver × List Finding). st .0) (c .last),
       ap (findings M flagged) (c .is) ∙ outs-append (next M) (finds M) (c .quiet) (false ∷ []) flagged
           ∙ ap₂ (λ (a b : List Finding). a ++ b) (c .nothing) (ap (λ (st : Receiver × List Finding). st .1 ++ []) (c .last)),
     )

@@ -14,7 +14,7 @@ use Rattle.bits.proofs.Whole.{whole-line}
 use Rattle.fcs.specs.Check.{checkBits, checkOf, goodResidue, checkOctets}
 use Rattle.fcs.proofs.Residue.{good-residue, check-are-octets}
 use Rattle.framing.specs.declared.Verdict.the-variants.{Good}
-use Rattle.framing.specs.Delimitation.{Receiver, Finding, closed, flagged, next, finds, after, findings}
+use Rattle.framing.specs.Delimitation.{Receiver, Finding, closed, flagged, next, finds, receiverAfter, findings}
 use Rattle.framing.specs.Verdict.{verdictOf}
 use Rattle.sending.specs.declared.Tx.{Tx}
 use Rattle.sending.specs.Stuffing.{unitBits, unitLine}
@@ -26,7 +26,7 @@ use Rattle.sending.proofs.ReadBack.{read-back}
 
 -- a unit of content and its check octets, sent after a flag, is read back
 pub read-back-unit : (M : ℕ) (content : List ℕ) → length content + 2 ≤ M
-    → (after M flagged (unitLine content) ≡ flagged) × (findings M flagged (unitLine content) ≡ closed (unitBits content) ∷ [])
+    → (receiverAfter M flagged (unitLine content) ≡ flagged) × (findings M flagged (unitLine content) ≡ closed (unitBits content) ∷ [])
 unfolding unitLine
 read-back-unit M content h = read-back M (unitBits content) (omega (arith, unit-bits content)) (omega (arith, unit-bits content))
 
@@ -52,8 +52,8 @@ pub read-back-sent : ReadBackSent
 read-back-sent M t content s h e =
     let all = nothing-lost t (unitLine content) .0 in
     let back = read-back-unit M content h in (
-      ap (after M s) all ∙ run-append (next M) (waiting t) (unitLine content) s
-          ∙ ap (λ (x : Receiver). after M x (unitLine content)) e ∙ back .0,
+      ap (receiverAfter M s) all ∙ run-append (next M) (waiting t) (unitLine content) s
+          ∙ ap (λ (x : Receiver). receiverAfter M x (unitLine content)) e ∙ back .0,
       ap (findings M s) all ∙ outs-append (next M) (finds M) (waiting t) (unitLine content) s
           ∙ ap (λ (x : Receiver). findings M s (waiting t) ++ findings M x (unitLine content)) e
           ∙ ap (λ (fs : List Finding). findings M s (waiting t) ++ fs) (back .1),

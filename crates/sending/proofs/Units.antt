@@ -10,9 +10,9 @@ use Rattle.bits.proofs.Lines.{line-append}
 use Rattle.fcs.specs.Check.{checkOctets}
 use Rattle.sending.specs.declared.Tx.{Tx}
 use Rattle.sending.specs.Stuffing.{stuffed, onesOver, flag, unitBits, unitLine}
-use Rattle.sending.specs.Packing.{octetsOut, stillWaiting, afterBits, Puts, Ready, Room}
+use Rattle.sending.specs.Packing.{octetsOut, stillWaiting, afterBits, Puts, TxInRange, Room}
 use Rattle.sending.proofs.Stuffs.{stuffed-append, over-le}
-use Rattle.sending.proofs.Turns.{Rest, begins, first-room, goes, ends, marked}
+use Rattle.sending.proofs.PutSteps.{Rest, begins, first-room, goes, ends, marked}
 
 -- the ones in a row after the content
 abbrev pub onesBefore : List ℕ → ℕ
@@ -30,7 +30,7 @@ parts content check k =
     ∙ ap (λ (bs : List Bool). bs ++ flag) (stuffed-append (lineBits content) (lineBits check) 0)
     ∙ append-assoc (stuffed 0 (lineBits content)) (stuffed (onesBefore content) (lineBits check)) flag
 
-module _ (out : List ℕ) (t : Tx) (content check : List ℕ) (k : check ≡ checkOctets content) (g : Ready t) (r : Room t (unitLine content) out) where
+module _ (out : List ℕ) (t : Tx) (content check : List ℕ) (k : check ≡ checkOctets content) (g : TxInRange t) (r : Room t (unitLine content) out) where
   abbrev Left : List ℕ → Tx → List Bool → Type 0
   Left = Rest out (marked t 0) (unitLine content) 0
 
@@ -39,7 +39,7 @@ module _ (out : List ℕ) (t : Tx) (content check : List ℕ) (k : check ≡ che
       subst (λ (bs : List Bool). Left out (marked t 0) bs) (parts content check k)
       (begins out (marked t 0) (unitLine content) 0 (record { few = g .few; low = g .low; short = omega arith }) r)
 
-  pub content-room : Ready (marked t 0) × Room (marked t 0) (stuffed 0 (lineBits content)) out
+  pub content-room : TxInRange (marked t 0) × Room (marked t 0) (stuffed 0 (lineBits content)) out
   content-room =
       (before .ready, first-room out (marked t 0) (unitLine content) 0 out (marked t 0) (stuffed 0 (lineBits content)) (ending content check) before)
 
@@ -52,7 +52,7 @@ module _ (out : List ℕ) (t : Tx) (content check : List ℕ) (k : check ≡ che
         (goes out (marked t 0) (unitLine content) 0 out (marked t 0) (stuffed 0 (lineBits content)) (ending content check) (onesBefore content)
         (over-le 0 (lineBits content) (omega arith)) before a out₁ p)
 
-    pub check-room : Ready a × Room a (stuffed (a .ones) (lineBits check)) out₁
+    pub check-room : TxInRange a × Room a (stuffed (a .ones) (lineBits check)) out₁
     check-room = (
       after-content .ready,
       first-room out (marked t 0) (unitLine content) 0 out₁ a (stuffed (a .ones) (lineBits check)) flag after-content,
@@ -66,7 +66,7 @@ module _ (out : List ℕ) (t : Tx) (content check : List ℕ) (k : check ≡ che
           goes out (marked t 0) (unitLine content) 0 out₁ a (stuffed (a .ones) (lineBits check)) flag
           (onesOver (a .ones) (lineBits check)) (over-le (a .ones) (lineBits check) (after-content .ready .short)) after-content b out₂ q
 
-      pub flag-room : Ready b × Room b flag out₂
+      pub flag-room : TxInRange b × Room b flag out₂
       flag-room = (after-check .ready, after-check .room)
 
       -- the flag is put

@@ -29,16 +29,16 @@ afterBits t bs ones =
     }
 
 -- the output area with those octets in it
-abbrev pub written : List ℕ → Tx → List Bool → List ℕ
-written out t bs = sets out (t .at) (octetsOut t bs)
+abbrev pub areaPut : List ℕ → Tx → List Bool → List ℕ
+areaPut out t bs = sets out (t .at) (octetsOut t bs)
 
 -- what a function that puts bits gives: where the sender is, with `ones` ones in a row, and the area
 pub record Puts (out : List ℕ) (t : Tx) (bs : List Bool) (ones : ℕ) (r : Tx) (out′ : List ℕ) : Type 0 where
   pub tx : r ≡ afterBits t bs ones
-  pub area : out′ ≡ written out t bs
+  pub area : out′ ≡ areaPut out t bs
 
 -- at most seven bits wait, the waiting octet is zero past them, and at most four ones in a row stand before the next bit
-pub record Ready (t : Tx) : Type 0 where
+pub record TxInRange (t : Tx) : Type 0 where
   pub few : t .count ≤ 7
   pub low : t .wait < 2 ^ t .count
   pub short : t .ones ≤ 4

@@ -8,7 +8,7 @@ use Rattle.bits.specs.Octets.{lineBits, wholeOctets, Octets}
 use Rattle.bits.specs.Format.{basic}
 use Rattle.fcs.specs.Check.{checkOctets}
 use Rattle.framing.specs.declared.Verdict.the-variants.{Good}
-use Rattle.framing.specs.Delimitation.{Receiver, closed, flagged, after, findings}
+use Rattle.framing.specs.Delimitation.{Receiver, closed, flagged, receiverAfter, findings}
 use Rattle.framing.specs.Verdict.{verdictOf}
 use Rattle.sending.specs.declared.Tx.{Tx}
 use Rattle.sending.specs.Stuffing.{zerosIn, onLine, unitBits, unitLine}
@@ -35,14 +35,14 @@ FewOctets =
 abbrev pub ReadBack : Type 0
 ReadBack =
     (M : ℕ) (u : List Bool) → 0 < length u → length u ≤ 8 * M
-    → (after M flagged (onLine u) ≡ flagged) × (findings M flagged (onLine u) ≡ closed u ∷ [])
+    → (receiverAfter M flagged (onLine u) ≡ flagged) × (findings M flagged (onLine u) ≡ closed u ∷ [])
 
 -- The same of content and its check octets through the sender, whatever waits before them: a receiver that has just read a flag once
 -- it has read what waits, and then reads the octets that go out and the bits that wait, finds exactly this unit more.
 abbrev pub ReadBackSent : Type 0
 ReadBackSent =
-    (M : ℕ) (t : Tx) (content : List ℕ) (s : Receiver) → length content + 2 ≤ M → after M s (waiting t) ≡ flagged
-    → (after M s (lineBits (octetsOut t (unitLine content)) ++ stillWaiting t (unitLine content)) ≡ flagged)
+    (M : ℕ) (t : Tx) (content : List ℕ) (s : Receiver) → length content + 2 ≤ M → receiverAfter M s (waiting t) ≡ flagged
+    → (receiverAfter M s (lineBits (octetsOut t (unitLine content)) ++ stillWaiting t (unitLine content)) ≡ flagged)
     × (findings M s (lineBits (octetsOut t (unitLine content)) ++ stillWaiting t (unitLine content))
     ≡ findings M s (waiting t) ++ (closed (unitBits content) ∷ []))
 

@@ -4,7 +4,7 @@ ghost use mathlib.Core.List.{List, [], _∷_};
 ghost use Prim.Native.Nat.{_^_, _≤_, _<_, _+_, _*_};
 ghost use Rattle.bits.specs.Octets.{bitsOf, lineBits, worth};
 ghost use Rattle.sending.specs.Stuffing.{stuffed, onesOver, flag, unitLine};
-ghost use Rattle.sending.specs.Packing.{Puts, Ready, Room};
+ghost use Rattle.sending.specs.Packing.{Puts, TxInRange, Room};
 
 // Where the next octet goes in the output area; how many bits wait and the octet that holds them, first one lowest; and the
 // ones sent in a row.
@@ -25,7 +25,7 @@ fn grow(wait: u8, count: u8, bit: bool) -> u8
 
 // One bit as it is.
 fn put_bit(out: &mut [u8], t: Tx, bit: bool) -> Tx
-    requires { ⌜ Ready t × Room t (bit ∷ []) (now out) ⌝ }
+    requires { ⌜ TxInRange t × Room t (bit ∷ []) (now out) ⌝ }
     ensures { λ r. ⌜ Puts (now (out .entry)) t (bit ∷ []) (t .ones) r (now (out .exit)) ⌝ }
 {
     let at = t.at;
@@ -50,7 +50,7 @@ fn put_bit(out: &mut [u8], t: Tx, bit: bool) -> Tx
 
 // One bit of a unit: a fifth one in a row has a zero put in after it.
 fn put_stuffed(out: &mut [u8], t: Tx, bit: bool) -> Tx
-    requires { ⌜ Ready t × Room t (stuffed (t .ones) (bit ∷ [])) (now out) ⌝ }
+    requires { ⌜ TxInRange t × Room t (stuffed (t .ones) (bit ∷ [])) (now out) ⌝ }
     ensures { λ r. ⌜ Puts (now (out .entry)) t (stuffed (t .ones) (bit ∷ [])) (onesOver (t .ones) (bit ∷ [])) r (now (out .exit)) ⌝ }
 {
     let p = put_bit(out, t, bit);
@@ -82,7 +82,7 @@ fn put_stuffed(out: &mut [u8], t: Tx, bit: bool) -> Tx
 
 // One octet of a unit, lowest bit first.
 fn put_octet(out: &mut [u8], t: Tx, octet: u8) -> Tx
-    requires { ⌜ Ready t × Room t (stuffed (t .ones) (bitsOf 8 octet)) (now out) ⌝ }
+    requires { ⌜ TxInRange t × Room t (stuffed (t .ones) (bitsOf 8 octet)) (now out) ⌝ }
     ensures { λ r. ⌜ Puts (now (out .entry)) t (stuffed (t .ones) (bitsOf 8 octet)) (onesOver (t .ones) (bitsOf 8 octet)) r (now (out .exit)) ⌝ }
 {
     let mut s = t;
@@ -98,7 +98,7 @@ fn put_octet(out: &mut [u8], t: Tx, octet: u8) -> Tx
 
 // Octets of a unit.
 fn put_octets(out: &mut [u8], t: Tx, octets: &[u8]) -> Tx
-    requires { ⌜ Ready t × Room t (stuffed (t .ones) (lineBits (now octets))) (now out) ⌝ }
+    requires { ⌜ TxInRange t × Room t (stuffed (t .ones) (lineBits (now octets))) (now out) ⌝ }
     ensures { λ r. ⌜ Puts (now (out .entry)) t (stuffed (t .ones) (lineBits (now (octets .entry)))) (onesOver (t .ones) (lineBits (now (octets .entry)))) r (now (out .exit)) ⌝ }
 {
     let mut s = t;
@@ -112,7 +112,7 @@ fn put_octets(out: &mut [u8], t: Tx, octets: &[u8]) -> Tx
 
 // A flag, whose bits are not stuffed. The ones in a row begin anew behind it.
 pub fn put_flag(out: &mut [u8], t: Tx) -> Tx
-    requires { ⌜ Ready t × Room t flag (now out) ⌝ }
+    requires { ⌜ TxInRange t × Room t flag (now out) ⌝ }
     ensures { λ r. ⌜ Puts (now (out .entry)) t flag 0 r (now (out .exit)) ⌝ }
 {
     let mut s = t;
@@ -133,7 +133,7 @@ pub fn put_flag(out: &mut [u8], t: Tx) -> Tx
 
 // A whole unit after a flag: content, its check octets, and the closing flag.
 pub fn put_unit(out: &mut [u8], t: Tx, content: &[u8]) -> Tx
-    requires { ⌜ Ready t × Room t (unitLine (now content)) (now out) ⌝ }
+    requires { ⌜ TxInRange t × Room t (unitLine (now content)) (now out) ⌝ }
     ensures { λ r. ⌜ Puts (now (out .entry)) t (unitLine (now (content .entry))) 0 r (now (out .exit)) ⌝ }
 {
     let begin = Tx {

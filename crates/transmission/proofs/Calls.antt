@@ -18,11 +18,11 @@ use Rattle.sending.proofs.Puttings.{length-waiting, nothing-lost}
 use Rattle.sending.proofs.Stuffs.{few-octets}
 use Rattle.board.specs.declared.Link.{Link}
 use Rattle.board.specs.Promises.{Sized}
-use Rattle.board.proofs.Orders.{InOrder}
+use Rattle.board.proofs.Ranges.{InOrder}
 use Rattle.link.specs.Refusals.{pick}
 use Rattle.link.proofs.Answers.{done}
 use Rattle.output.specs.Refusals.{sendNumber, fillNumber}
-use Rattle.output.specs.Output.{OutputOutcome, sender, firstFlag, unitOut, fillIn, fillOut, fillEvent, putOut, notSent, sendAnswer, fillAnswer}
+use Rattle.output.specs.Output.{OutputOutcome, sender, firstFlag, unitOut, fillContent, fillOut, fillEvent, putOut, notSent, sendAnswer, fillAnswer}
 use Rattle.transmission.specs.Transmission.{Sending, send, fill, areaOf, answer, sentOn, wentOut, waitingBits}
 use Rattle.transmission.specs.Promises.{FewSent, RestUnchanged}
 use Rattle.output.proofs.Outputs.{fillable, sendable, first-short}
@@ -92,8 +92,8 @@ few-fill : (l : Link) → InOrder l → length (l .transmitter .last) ≡ 2 → 
 unfolding fillOut
 few-fill l o h = go (l .transmitter .sent)
   where
-    go : (b : Bool) → length (octetsOut (sender (l .transmitter)) (pick b (unitOut (l .transmitter) (fillIn (l .transmitter .last))) flag)) ≤ 335
-    go true = few-unit l (fillIn (l .transmitter .last)) o (omega (arith, length-append (l .transmitter .last) (0 ∷ [])))
+    go : (b : Bool) → length (octetsOut (sender (l .transmitter)) (pick b (unitOut (l .transmitter) (fillContent (l .transmitter .last))) flag)) ≤ 335
+    go true = few-unit l (fillContent (l .transmitter .last)) o (omega (arith, length-append (l .transmitter .last) (0 ∷ [])))
     go false = few-flag l o
 
 pub record Room (l : Link) (s : Sending) : Type 0 where

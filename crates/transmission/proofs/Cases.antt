@@ -7,7 +7,7 @@ use Rattle.fcs.specs.Check.{checkOf, checkOctets}
 use Rattle.sending.specs.Packing.{octetsOut, stillWaiting}
 use Rattle.sending.specs.Stuffing.{flag, stuffed, unitBits, unitLine}
 use Rattle.board.specs.Link.{clearArea}
-use Rattle.board.specs.Order.{noOnes, zeroPast, inRange, lineOut, counterOut, monitorOut, transmitterOut, outOfOrder, malformed}
+use Rattle.board.specs.Malformed.{noOnes, zeroPast, inRange, lineOut, counterOut, monitorOut, transmitterOut, openMalformed, malformed}
 use Rattle.link.specs.Refusals.{first}
 use Rattle.output.specs.Refusals.{sendNumber, fillNumber}
 use Rattle.output.specs.Output.{unitOut, fillOut, sendAnswer, fillAnswer}
@@ -24,5 +24,5 @@ p14 l content output z =
     }
 
 pub three-sent : ThreeSent
-unfolding octetsSent linkAfter sendAnswer fillAnswer sendNumber fillNumber first malformed outOfOrder transmitterOut monitorOut counterOut lineOut inRange zeroPast noOnes clearArea unitOut fillOut unitLine unitBits lineBits bitsOf octetOf packed wholeOctets bitsAfter octetsOut stillWaiting checkOf checkOctets
+unfolding octetsSent linkAfter sendAnswer fillAnswer sendNumber fillNumber first malformed openMalformed transmitterOut monitorOut counterOut lineOut inRange zeroPast noOnes clearArea unitOut fillOut unitLine unitBits lineBits bitsOf octetOf packed wholeOctets bitsAfter octetsOut stillWaiting checkOf checkOctets
 three-sent = (refl, refl, refl)

@@ -15,7 +15,7 @@ use Rattle.board.specs.declared.Settings.{Settings}
 use Rattle.board.specs.declared.Link.{Link}
 use Rattle.link.specs.Calls.{Outcome, openedLink}
 use Rattle.link.proofs.Kept.{opened}
-use Rattle.output.specs.Output.{firstFlag, unitOut, fillIn, fillOut}
+use Rattle.output.specs.Output.{firstFlag, unitOut, fillContent, fillOut}
 use Rattle.transmission.specs.Transmission.{Sending, send, fill, answer, sentOn, wentOut, linkAfter, octetsSent, Accepted, none, more, waitingBits, fillsFirst, contentsFrom, contents}
 use Rattle.transmission.specs.Promises.{TransmitterLine}
 use Rattle.output.proofs.Outputs.{sendable}
@@ -77,7 +77,7 @@ sent-after l content output p =
     let e = then-is l (send content output) p in
     record { flagged = ap (λ (t : Transmitter). t .flagged) e; sent = ap (λ (t : Transmitter). t .sent) e; is = ap (λ (t : Transmitter). t .last) e }
 
-fill-next : (last output : List ℕ) (ss : List Sending) → length last ≡ 2 → contentsFrom last (fill output ∷ ss) ≡ fillIn last ∷ contentsFrom last ss
+fill-next : (last output : List ℕ) (ss : List Sending) → length last ≡ 2 → contentsFrom last (fill output ∷ ss) ≡ fillContent last ∷ contentsFrom last ss
 unfolding contentsFrom
 fill-next [] output ss h = absurd (omega arith)
 fill-next (x ∷ last) output ss h = refl
@@ -99,7 +99,7 @@ after-content l (fill output ∷ ss) last h t (more z a) =
       sent = ap (λ (x : Transmitter). x .sent) e ∙ t .sent;
       is = ap (λ (x : Transmitter). x .last) e ∙ t .is;
     } in
-    let bits : fillOut (l .transmitter) ≡ unitLine (fillIn last) = rw (t .sent, t .flagged, t .is) in
+    let bits : fillOut (l .transmitter) ≡ unitLine (fillContent last) = rw (t .sent, t .flagged, t .is) in
     ap₂ (λ (xs ys : List Bool). xs ++ ys) bits (after-content (sentOn l (fill output)) ss last h t′ a)
     ∙ ap unitsLine (sym (fill-next last output ss h))
 

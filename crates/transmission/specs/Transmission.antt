@@ -7,7 +7,7 @@ use lib.ListN.{take}
 use Rattle.bits.specs.Machine.{run, outs}
 use Rattle.sending.specs.Packing.{waiting}
 use Rattle.board.specs.declared.Link.{Link}
-use Rattle.output.specs.Output.{OutputOutcome, sender, fillIn, sendAnswer, fillAnswer}
+use Rattle.output.specs.Output.{OutputOutcome, sender, fillContent, sendAnswer, fillAnswer}
 
 -- a call, with the output area lent to it
 pub data Sending : Type 0 where
@@ -56,7 +56,7 @@ unfoldable pub contentsFrom : List ℕ → List Sending → List (List ℕ)
 contentsFrom last [] = []
 contentsFrom last (send content output ∷ ss) = content ∷ contentsFrom (take 2 content) ss
 contentsFrom [] (fill output ∷ ss) = contentsFrom [] ss
-contentsFrom (x ∷ last) (fill output ∷ ss) = fillIn (x ∷ last) ∷ contentsFrom (x ∷ last) ss
+contentsFrom (x ∷ last) (fill output ∷ ss) = fillContent (x ∷ last) ∷ contentsFrom (x ∷ last) ss
 
 abbrev pub contents : List Sending → List (List ℕ)
 contents = contentsFrom []

@@ -18,7 +18,7 @@ use Rattle.framing.specs.declared.Verdict.the-variants.{Short, NotWhole, CheckW
 use Rattle.framing.specs.Verdict.{verdictOf, pick}
 use Rattle.board.specs.declared.Settings.{Settings}
 use Rattle.units.specs.declared.Taken.{Taken}
-use Rattle.units.specs.Desk.{Office, office, served, shortTaken, goodUnit, erroredUnit, closedUnit}
+use Rattle.units.specs.Units.{UnitMemory, unitMemory, effect, shortTaken, goodUnit, erroredUnit, closedUnit}
 
 -- a good unit has 40 bits or more
 good-forty : (u : List Bool) → verdictOf basic u ≡ Good → 40 ≤ length u
@@ -47,7 +47,7 @@ module _ (area : List ℕ) (bits : ℕ) (h : bits ≤ 2224) (e : area ≡ packed
       let l : length unit ≡ bits = length-take-le bits (lineBits area) (omega (arith, length-lineBits area, area-length)) in
       omega (arith, good-forty unit v)
 
-  module _ (s : Settings) (o : Office) where
+  module _ (s : Settings) (o : UnitMemory) where
     pub closed-not-whole : verdictOf basic unit ≡ NotWhole → closedUnit s o unit ≡ erroredUnit s o 2 4 (take (bits / 8) area)
     unfolding closedUnit
     closed-not-whole v = rw (v, whole)
@@ -60,8 +60,8 @@ module _ (area : List ℕ) (bits : ℕ) (h : bits ≤ 2224) (e : area ≡ packed
     unfolding closedUnit
     closed-good v = rw (v, whole)
 
-    pub closed-short : {t : Taken} → verdictOf basic unit ≡ Short → t ≡ shortTaken (o .desk) (take (bits / 8) area)
-        → served (office (t .desk) (o .pool) (o .descriptors)) (t .happening ∷ []) ≡ closedUnit s o unit
+    pub closed-short : {t : Taken} → verdictOf basic unit ≡ Short → t ≡ shortTaken (o .units) (take (bits / 8) area)
+        → effect (unitMemory (t .units) (o .pool) (o .descriptors)) (t .happening ∷ []) ≡ closedUnit s o unit
     unfolding closedUnit
     closed-short v g =
-        rw (v, whole) (ap (λ (t : Taken). served (office (t .desk) (o .pool) (o .descriptors)) (t .happening ∷ [])) g)
+        rw (v, whole) (ap (λ (t : Taken). effect (unitMemory (t .units) (o .pool) (o .descriptors)) (t .happening ∷ [])) g)

@@ -5,7 +5,7 @@ use mathlib.Core.List.{List, [], _∷_}
 use native.Mathlib.Omega.{arith}
 use lib.ListN.{length, take, getD, length-take, List·getD-eq-default}
 use lib.Seq.{take-append-le, getD-take}
-use Rattle.units.specs.Desk.{firstFive}
+use Rattle.units.specs.Units.{firstFive}
 
 pub five : (os : List ℕ) → firstFive os ≡ getD os 0 0 ∷ getD os 1 0 ∷ getD os 2 0 ∷ getD os 3 0 ∷ getD os 4 0 ∷ []
 five [] = refl

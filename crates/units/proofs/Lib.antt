@@ -1,5 +1,5 @@
--- The laws of the desk.
+-- The laws of the unit state.
 pub mod FirstFive
 pub mod Ways
 pub mod Closing
-pub mod Desks
+pub mod UnitStates

@@ -15,8 +15,8 @@ use Rattle.board.specs.declared.Settings.{Settings}
 use Rattle.board.specs.declared.Counting.{Counting}
 use Rattle.board.specs.declared.Counts.{Counts}
 use Rattle.records.specs.declared.Happening.{Happening}
-use Rattle.units.specs.declared.Desk.{Desk}
-use Rattle.units.specs.Desk.{Office, office, served, deskOf, begins, firstFive, isFree, goodCounts, overCounts, droppedCounts, lostCounts, goodUnit, erroredUnit}
+use Rattle.units.specs.declared.UnitState.{UnitState}
+use Rattle.units.specs.Units.{UnitMemory, unitMemory, effect, unitStateOf, begins, firstFive, isFree, goodCounts, overCounts, droppedCounts, lostCounts, goodUnit, erroredUnit}
 use Rattle.units.proofs.FirstFive.{five-take}
 
 -- what the code says of such a unit
@@ -29,61 +29,61 @@ alone : (b : Bool) → b ≡ (b || false)
 alone true = refl
 alone false = refl
 
-module _ (s : Settings) (desk : Desk) (pool descriptors area : List ℕ) (count : ℕ) (h : count ≤ 278) (l : length area ≡ 279)
+module _ (s : Settings) (units : UnitState) (pool descriptors area : List ℕ) (count : ℕ) (h : count ≤ 278) (l : length area ≡ 279)
     {first : List ℕ} (f : first ≡ firstFive (take count area))
-    {free : Bool} (e : free ≡ eqb (statusOf descriptors (desk .slots .next)) 32768) where
-  abbrev before : Office
-  before = office desk pool descriptors
+    {free : Bool} (e : free ≡ eqb (statusOf descriptors (units .slots .next)) 32768) where
+  abbrev before : UnitMemory
+  before = unitMemory units pool descriptors
 
   unit-length : length (take count area) ≡ count
   unit-length = length-take-le count area (omega arith)
 
   -- ---- a unit with an error
-  pub errored-over : (status kind : ℕ) {next : ℕ} {p d : List ℕ} {x : Desk} {y : Happening} → free ≡ true → next ≡ nextSlot (s .k) (desk .slots .next)
-      → p ≡ withSlot pool (desk .slots .next) (filled (take count area)) → d ≡ withDescriptor descriptors (desk .slots .next) status count
-      → x ≡ deskOf (desk .counting) (desk .memory) next (desk .counts) → y ≡ heard kind false count first (desk .counts .good) true 1
-      → served (office x p d) (y ∷ []) ≡ erroredUnit s before status kind (take count area)
+  pub errored-over : (status kind : ℕ) {next : ℕ} {p d : List ℕ} {x : UnitState} {y : Happening} → free ≡ true → next ≡ nextSlot (s .k) (units .slots .next)
+      → p ≡ withSlot pool (units .slots .next) (filled (take count area)) → d ≡ withDescriptor descriptors (units .slots .next) status count
+      → x ≡ unitStateOf (units .counting) (units .memory) next (units .counts) → y ≡ heard kind false count first (units .counts .good) true 1
+      → effect (unitMemory x p d) (y ∷ []) ≡ erroredUnit s before status kind (take count area)
   unfolding erroredUnit
   errored-over status kind t n p d x y =
-      let w : eqb (statusOf descriptors (desk .slots .next)) 32768 ≡ true = sym e ∙ t in
+      let w : eqb (statusOf descriptors (units .slots .next)) 32768 ≡ true = sym e ∙ t in
       rw w (cc unit-length)
 
-  pub errored-lost : (status kind : ℕ) {x : Desk} {y : Happening} → free ≡ false
-      → x ≡ deskOf (begins (s .orn) (desk .counting)) (desk .memory) (desk .slots .next) (desk .counts)
-      → y ≡ heard kind true count first (desk .counts .good) true 2
-      → served (office x pool descriptors) (y ∷ []) ≡ erroredUnit s before status kind (take count area)
+  pub errored-lost : (status kind : ℕ) {x : UnitState} {y : Happening} → free ≡ false
+      → x ≡ unitStateOf (begins (s .orn) (units .counting)) (units .memory) (units .slots .next) (units .counts)
+      → y ≡ heard kind true count first (units .counts .good) true 2
+      → effect (unitMemory x pool descriptors) (y ∷ []) ≡ erroredUnit s before status kind (take count area)
   unfolding erroredUnit
   errored-lost status kind t x y =
-      let w : eqb (statusOf descriptors (desk .slots .next)) 32768 ≡ false = sym e ∙ t in
+      let w : eqb (statusOf descriptors (units .slots .next)) 32768 ≡ false = sym e ∙ t in
       rw w (cc unit-length)
 
   -- ---- a good unit
   module _ (five : 5 ≤ count) {st : Settled}
-      (t : (u : List ℕ) → length u ≡ count → take 5 u ≡ first → st ≡ settled (s .filter) (s .mask) (desk .memory) u free)
-      {counts : Counts} (n : counts ≡ goodCounts (desk .counts)) where
-    told : settled (s .filter) (s .mask) (desk .memory) (take count area) (isFree before) ≡ st
+      (t : (u : List ℕ) → length u ≡ count → take 5 u ≡ first → st ≡ settled (s .filter) (s .mask) (units .memory) u free)
+      {counts : Counts} (n : counts ≡ goodCounts (units .counts)) where
+    told : settled (s .filter) (s .mask) (units .memory) (take count area) (isFree before) ≡ st
     told =
-        ap (settled (s .filter) (s .mask) (desk .memory) (take count area)) (sym e)
+        ap (settled (s .filter) (s .mask) (units .memory) (take count area)) (sym e)
         ∙ sym (t (take count area) unit-length (five-take (take count area) (omega (arith, unit-length)) ∙ sym f))
 
     abbrev counted : Bool → Counting
-    counted on = record { on = on; left = desk .counting .left }
+    counted on = record { on = on; left = units .counting .left }
 
-    pub good-over : {next : ℕ} {p d : List ℕ} {over : Counts} {x : Desk} {y : Happening} → st .fate ≡ HandedOver → next ≡ nextSlot (s .k) (desk .slots .next)
-        → p ≡ withSlot pool (desk .slots .next) (filled (take count area)) → d ≡ withDescriptor descriptors (desk .slots .next) 0 count
-        → over ≡ overCounts counts → x ≡ deskOf (counted false) (st .memory) next over → y ≡ heard 0 false count first (counts .good) false 1
-        → served (office x p d) (y ∷ []) ≡ goodUnit s before (take count area)
+    pub good-over : {next : ℕ} {p d : List ℕ} {over : Counts} {x : UnitState} {y : Happening} → st .fate ≡ HandedOver → next ≡ nextSlot (s .k) (units .slots .next)
+        → p ≡ withSlot pool (units .slots .next) (filled (take count area)) → d ≡ withDescriptor descriptors (units .slots .next) 0 count
+        → over ≡ overCounts counts → x ≡ unitStateOf (counted false) (st .memory) next over → y ≡ heard 0 false count first (counts .good) false 1
+        → effect (unitMemory x p d) (y ∷ []) ≡ goodUnit s before (take count area)
     unfolding goodUnit
     good-over g a p d o x y = rw (told, g) (cc unit-length)
 
-    pub good-dropped : {dropped : Counts} {x : Desk} {y : Happening} → st .fate ≡ Dropped → dropped ≡ droppedCounts counts
-        → x ≡ deskOf (counted false) (st .memory) (desk .slots .next) dropped → y ≡ heard 1 false count first (counts .good) false 0
-        → served (office x pool descriptors) (y ∷ []) ≡ goodUnit s before (take count area)
+    pub good-dropped : {dropped : Counts} {x : UnitState} {y : Happening} → st .fate ≡ Dropped → dropped ≡ droppedCounts counts
+        → x ≡ unitStateOf (counted false) (st .memory) (units .slots .next) dropped → y ≡ heard 1 false count first (counts .good) false 0
+        → effect (unitMemory x pool descriptors) (y ∷ []) ≡ goodUnit s before (take count area)
     unfolding goodUnit
     good-dropped g o x y = rw (told, g) (cc unit-length)
 
-    pub good-lost : {lost : Counts} {x : Desk} {y : Happening} → st .fate ≡ Lost → lost ≡ lostCounts counts
-        → x ≡ deskOf (counted (s .orn)) (st .memory) (desk .slots .next) lost → y ≡ heard 2 true count first (counts .good) false 2
-        → served (office x pool descriptors) (y ∷ []) ≡ goodUnit s before (take count area)
+    pub good-lost : {lost : Counts} {x : UnitState} {y : Happening} → st .fate ≡ Lost → lost ≡ lostCounts counts
+        → x ≡ unitStateOf (counted (s .orn)) (st .memory) (units .slots .next) lost → y ≡ heard 2 true count first (counts .good) false 2
+        → effect (unitMemory x pool descriptors) (y ∷ []) ≡ goodUnit s before (take count area)
     unfolding goodUnit
     good-lost g o x y = rw (told, g) (cc (unit-length, alone (s .orn)))

@@ -1,13 +1,13 @@
--- What the desk, the monitor and the lent memory obey while a link is open.
+-- What the unit state, the monitor and the lent memory obey while a link is open.
 use Prim.Native.Nat.{ℕ, _*_, _≤_, _<_}
 use mathlib.Core.Path.{_≡_}
 use mathlib.Core.List.{List}
 use lib.ListN.{length}
 use Rattle.board.specs.declared.Settings.{Settings}
-use Rattle.units.specs.declared.Desk.{Desk}
+use Rattle.units.specs.declared.UnitState.{UnitState}
 
 -- the lent memory is that of K slots, the next slot is one of them, and N's counter runs
-pub record Fits (s : Settings) (d : Desk) (pool descriptors : List ℕ) : Type 0 where
+pub record Fits (s : Settings) (d : UnitState) (pool descriptors : List ℕ) : Type 0 where
   pub slots : (1 ≤ s .k) × (s .k ≤ 16)
   pub octets : length pool ≡ 280 * s .k
   pub words : length descriptors ≡ 2 * s .k

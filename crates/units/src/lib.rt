@@ -15,21 +15,21 @@ ghost use lib.Dec.{eqb};
 ghost use lib.ListN.{length, take, getD};
 ghost use Rattle.bits.specs.Octets.{lineBits, packed};
 ghost use Rattle.memory.specs.Lent.{statusOf};
-ghost use Rattle.units.specs.Desk.{office, served, deskOf, firstFive, goodCounts, overCounts, droppedCounts, lostCounts, goodUnit, erroredUnit, shortTaken, closedUnit, broken, tickOf, pickℕ};
+ghost use Rattle.units.specs.Units.{unitMemory, effect, unitStateOf, firstFive, goodCounts, overCounts, droppedCounts, lostCounts, goodUnit, erroredUnit, shortTaken, closedUnit, broken, tickOf, pickℕ};
 ghost use Rattle.units.specs.Fit.{Fits};
 
 // The parts of the link that deal with units: octet counting, the filter's memory, the next slot, the counts.
 #[repr(C)]
-pub struct Desk {
+pub struct UnitState {
     pub counting: Counting,
     pub memory: Memory,
     pub slots: Slots,
     pub counts: Counts,
 }
 
-// The desk after a finding, and what happened.
+// The unit state after a finding, and what happened.
 pub struct Taken {
-    pub desk: Desk,
+    pub units: UnitState,
     pub happening: Happening,
 }
 
@@ -100,11 +100,11 @@ fn count_lost(c: Counts) -> Counts
     n
 }
 
-// A desk of these parts.
-fn desk_of(on: bool, left: u16, memory: Memory, next: u16, counts: Counts) -> Desk
-    ensures { λ r. ⌜ r ≡ deskOf (record { on = on; left = left }) memory next counts ⌝ }
+// A unit state of these parts.
+fn unit_state(on: bool, left: u16, memory: Memory, next: u16, counts: Counts) -> UnitState
+    ensures { λ r. ⌜ r ≡ unitStateOf (record { on = on; left = left }) memory next counts ⌝ }
 {
-    Desk {
+    UnitState {
         counting: Counting { on: on, left: left },
         memory: memory,
         slots: Slots { next: next },
@@ -155,26 +155,26 @@ fn bare_of(kind: u8, count: u16, first: [u8; 5], good: u16, bits: u16) -> Happen
 // A good unit of `count` octets at the front of the area.
 fn good_unit(
     s: Settings,
-    desk: Desk,
+    units: UnitState,
     area: &[u8; 279],
     count: u16,
     pool: &mut [u8],
     descriptors: &mut [u16],
 ) -> Taken
-    requires { ⌜ Fits s desk (now pool) (now descriptors) ⌝ }
+    requires { ⌜ Fits s units (now pool) (now descriptors) ⌝ }
     requires { ⌜ (5 ≤ count) × (count ≤ 278) × (length (now area) ≡ 279) ⌝ }
-    ensures { λ r. ⌜ served (office (r .desk) (now (pool .exit)) (now (descriptors .exit))) (r .happening ∷ []) ≡ goodUnit s (office desk (now (pool .entry)) (now (descriptors .entry))) (take count (now (area .entry))) ⌝ }
+    ensures { λ r. ⌜ effect (unitMemory (r .units) (now (pool .exit)) (now (descriptors .exit))) (r .happening ∷ []) ≡ goodUnit s (unitMemory units (now (pool .entry)) (now (descriptors .entry))) (take count (now (area .entry))) ⌝ }
 {
-    let next = desk.slots.next;
+    let next = units.slots.next;
     let free = is_free(&*descriptors, next);
     let first = first_five(area, count);
     let mask = s.mask;
-    let memory = desk.memory;
+    let memory = units.memory;
     let settled = filter::settle(s.filter, mask, memory, count, first, free);
     let fate = settled.fate;
     let kept = settled.memory;
-    let counts = count_good(desk.counts);
-    let left = desk.counting.left;
+    let counts = count_good(units.counts);
+    let left = units.counting.left;
     let good = counts.good;
     match fate {
         Fate::HandedOver => {
@@ -182,21 +182,21 @@ fn good_unit(
             let after = memory::store_next(&mut *pool, &mut *descriptors, next, k, area, count, 0);
             let over = count_over(counts);
             Taken {
-                desk: desk_of(false, left, kept, after, over),
+                units: unit_state(false, left, kept, after, over),
                 happening: event_of(0, false, count, first, good, false, 1),
             }
         }
         Fate::Dropped => {
             let dropped = count_dropped(counts);
             Taken {
-                desk: desk_of(false, left, kept, next, dropped),
+                units: unit_state(false, left, kept, next, dropped),
                 happening: event_of(1, false, count, first, good, false, 0),
             }
         }
         Fate::Lost => {
             let lost = count_lost(counts);
             Taken {
-                desk: desk_of(s.orn, left, kept, next, lost),
+                units: unit_state(s.orn, left, kept, next, lost),
                 happening: event_of(2, true, count, first, good, false, 2),
             }
         }
@@ -206,7 +206,7 @@ fn good_unit(
 // A unit with an error, of this status and kind, of `count` whole octets at the front of the area.
 pub fn errored_unit(
     s: Settings,
-    desk: Desk,
+    units: UnitState,
     area: &[u8; 279],
     count: u16,
     status: u16,
@@ -214,39 +214,39 @@ pub fn errored_unit(
     pool: &mut [u8],
     descriptors: &mut [u16],
 ) -> Taken
-    requires { ⌜ Fits s desk (now pool) (now descriptors) ⌝ }
+    requires { ⌜ Fits s units (now pool) (now descriptors) ⌝ }
     requires { ⌜ (count ≤ 278) × (length (now area) ≡ 279) ⌝ }
-    ensures { λ r. ⌜ served (office (r .desk) (now (pool .exit)) (now (descriptors .exit))) (r .happening ∷ []) ≡ erroredUnit s (office desk (now (pool .entry)) (now (descriptors .entry))) status kind (take count (now (area .entry))) ⌝ }
+    ensures { λ r. ⌜ effect (unitMemory (r .units) (now (pool .exit)) (now (descriptors .exit))) (r .happening ∷ []) ≡ erroredUnit s (unitMemory units (now (pool .entry)) (now (descriptors .entry))) status kind (take count (now (area .entry))) ⌝ }
 {
-    let next = desk.slots.next;
+    let next = units.slots.next;
     let first = first_five(area, count);
-    let counting = desk.counting;
-    let memory = desk.memory;
-    let counts = desk.counts;
+    let counting = units.counting;
+    let memory = units.memory;
+    let counts = units.counts;
     let good = counts.good;
     if is_free(&*descriptors, next) {
         let k = s.k;
         let after = memory::store_next(&mut *pool, &mut *descriptors, next, k, area, count, status);
         return Taken {
-            desk: desk_of(counting.on, counting.left, memory, after, counts),
+            units: unit_state(counting.on, counting.left, memory, after, counts),
             happening: event_of(kind, false, count, first, good, true, 1),
         };
     }
     Taken {
-        desk: desk_of(s.orn | counting.on, counting.left, memory, next, counts),
+        units: unit_state(s.orn | counting.on, counting.left, memory, next, counts),
         happening: event_of(kind, true, count, first, good, true, 2),
     }
 }
 
 // A short unit: its record only.
-fn short_unit(desk: Desk, area: &[u8; 279], count: u16) -> Taken
+fn short_unit(units: UnitState, area: &[u8; 279], count: u16) -> Taken
     requires { ⌜ (count ≤ 278) × (length (now area) ≡ 279) ⌝ }
-    ensures { λ r. ⌜ r ≡ shortTaken desk (take count (now (area .entry))) ⌝ }
+    ensures { λ r. ⌜ r ≡ shortTaken units (take count (now (area .entry))) ⌝ }
 {
     let first = first_five(area, count);
-    let good = desk.counts.good;
+    let good = units.counts.good;
     Taken {
-        desk: desk,
+        units: units,
         happening: bare_of(5, count, first, good, 0),
     }
 }
@@ -254,23 +254,23 @@ fn short_unit(desk: Desk, area: &[u8; 279], count: u16) -> Taken
 // A closed unit of `bits` bits at the front of the area, by its verdict.
 pub fn closed_unit(
     s: Settings,
-    desk: Desk,
+    units: UnitState,
     area: &[u8; 279],
     bits: u16,
     pool: &mut [u8],
     descriptors: &mut [u16],
 ) -> Taken
-    requires { ⌜ Fits s desk (now pool) (now descriptors) ⌝ }
+    requires { ⌜ Fits s units (now pool) (now descriptors) ⌝ }
     requires { ⌜ (bits ≤ 2224) × (now area ≡ packed 279 (take (bits + 7) (lineBits (now area)))) ⌝ }
-    ensures { λ r. ⌜ served (office (r .desk) (now (pool .exit)) (now (descriptors .exit))) (r .happening ∷ []) ≡ closedUnit s (office desk (now (pool .entry)) (now (descriptors .entry))) (take bits (lineBits (now (area .entry)))) ⌝ }
+    ensures { λ r. ⌜ effect (unitMemory (r .units) (now (pool .exit)) (now (descriptors .exit))) (r .happening ∷ []) ≡ closedUnit s (unitMemory units (now (pool .entry)) (now (descriptors .entry))) (take bits (lineBits (now (area .entry)))) ⌝ }
 {
     let verdict = framing::unit::verdict(area, bits);
     let count = bits / 8;
     match verdict {
-        Verdict::Short => short_unit(desk, area, count),
+        Verdict::Short => short_unit(units, area, count),
         Verdict::NotWhole => errored_unit(
             s,
-            desk,
+            units,
             area,
             count,
             2,
@@ -280,7 +280,7 @@ pub fn closed_unit(
         ),
         Verdict::CheckWrong => errored_unit(
             s,
-            desk,
+            units,
             area,
             count,
             1,
@@ -288,21 +288,21 @@ pub fn closed_unit(
             &mut *pool,
             &mut *descriptors,
         ),
-        Verdict::Good => good_unit(s, desk, area, count, &mut *pool, &mut *descriptors),
+        Verdict::Good => good_unit(s, units, area, count, &mut *pool, &mut *descriptors),
     }
 }
 
 // A long unit or an abort, of this kind and with this event bit.
-pub fn break_off(s: Settings, desk: Desk, kind: u8, bits: u16) -> Taken
-    ensures { λ r. ⌜ ((pool descriptors : List ℕ) → served (office (r .desk) pool descriptors) (r .happening ∷ []) ≡ broken s (office desk pool descriptors) kind bits) ⌝ }
+pub fn break_off(s: Settings, units: UnitState, kind: u8, bits: u16) -> Taken
+    ensures { λ r. ⌜ ((pool descriptors : List ℕ) → effect (unitMemory (r .units) pool descriptors) (r .happening ∷ []) ≡ broken s (unitMemory units pool descriptors) kind bits) ⌝ }
 {
-    let counting = desk.counting;
-    let memory = desk.memory;
-    let counts = desk.counts;
-    let next = desk.slots.next;
+    let counting = units.counting;
+    let memory = units.memory;
+    let counts = units.counts;
+    let next = units.slots.next;
     let good = counts.good;
     Taken {
-        desk: desk_of(s.itu | counting.on, counting.left, memory, next, counts),
+        units: unit_state(s.itu | counting.on, counting.left, memory, next, counts),
         happening: bare_of(kind, 0, [0; 5], good, bits),
     }
 }

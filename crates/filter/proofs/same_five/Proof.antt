@@ -12,13 +12,13 @@ use Rattle.filter.proofs.same_five.Statement.{statement}
 use Rattle.filter.proofs.same_five.Tie as tie
 
 -- five tests, taken in turn
-in-turn : (a b c d e : Bool) → (((a && b) && c) && d) && e ≡ a && (b && (c && (d && (e && true))))
-in-turn false b c d e = refl
-in-turn true false c d e = refl
-in-turn true true false d e = refl
-in-turn true true true false e = refl
-in-turn true true true true false = refl
-in-turn true true true true true = refl
+in-round : (a b c d e : Bool) → (((a && b) && c) && d) && e ≡ a && (b && (c && (d && (e && true))))
+in-round false b c d e = refl
+in-round true false c d e = refl
+in-round true true false d e = refl
+in-round true true true false e = refl
+in-round true true true true false = refl
+in-round true true true true true = refl
 
 -- over plain lists, so that the tests are compared once
 five-tests : (xs ys : List ℕ) → length xs ≡ 5 → length ys ≡ 5
@@ -26,7 +26,7 @@ five-tests : (xs ys : List ℕ) → length xs ≡ 5 → length ys ≡ 5
     && eqb (getD xs 4 0) (getD ys 4 0) ≡ same xs ys
 unfolding same
 five-tests xs ys h k =
-    in-turn (eqb (getD xs 0 0) (getD ys 0 0)) (eqb (getD xs 1 0) (getD ys 1 0)) (eqb (getD xs 2 0) (getD ys 2 0)) (eqb (getD xs 3 0) (getD ys 3 0))
+    in-round (eqb (getD xs 0 0) (getD ys 0 0)) (eqb (getD xs 1 0) (getD ys 1 0)) (eqb (getD xs 2 0) (getD ys 2 0)) (eqb (getD xs 3 0) (getD ys 3 0))
     (eqb (getD xs 4 0) (getD ys 4 0)) ∙ sym (ap₂ same (of-five xs h) (of-five ys k))
 
 array-read-result : tie.Need-array-read-result

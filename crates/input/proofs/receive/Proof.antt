@@ -3,9 +3,9 @@ use Prim.Native.Nat.{_+_, _*_, _≤_}
 use mathlib.Core.Path.{_≡_, sym, subst, _∙_}
 use native.Mathlib.Omega.{arith}
 use lib.ListN.{length}
-use Rattle.marks.specs.declared.Progress.{Progress}
-use Rattle.marks.specs.Writing.{holding}
-use Rattle.reception.specs.Writing.{Ready, LineTaken}
+use Rattle.indications.specs.declared.Progress.{Progress}
+use Rattle.indications.specs.Writing.{holding}
+use Rattle.reception.specs.Writing.{StateInRange, LineTaken}
 use Rattle.bits.proofs.Typed.{array-of-octets}
 use Rattle.input.proofs.Receiving.{receivable, limits, ready, held, receive-refused, receive-done}
 use borrow.Author.Needs.{needs}
@@ -44,7 +44,7 @@ take-line-requires c κs =
         ok .order .settings .m .0,
         ok .order .settings .m .1,
         limits (a .link) (a .octets .now) (a .pool .now) (a .descriptors .now) (a .records .now) ok,
-        subst (λ (x : Progress). Ready (a .link .settings) (holding x (a .pool .now) (a .descriptors .now) (a .records .now))) (sym p) (ready (a .link) (a .octets .now) (a .pool .now) (a .descriptors .now) (a .records .now) ok),
+        subst (λ (x : Progress). StateInRange (a .link .settings) (holding x (a .pool .now) (a .descriptors .now) (a .records .now))) (sym p) (ready (a .link) (a .octets .now) (a .pool .now) (a .descriptors .now) (a .records .now) ok),
       ),
       (held (a .link) (a .octets .now) (a .pool .now) (a .descriptors .now) (a .records .now) ok typed, subst (λ (x : Progress). 16 * x .count + 48 * length (a .octets .now) ≤ length (a .records .now)) (sym p) (omega (arith, ok .room)), ok .few),
     )

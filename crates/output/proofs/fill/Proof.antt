@@ -6,7 +6,7 @@ use native.Mathlib.Omega.{arith}
 use borrow.Author.Tests.{not-true, not-false}
 use Rattle.sending.specs.declared.Tx.{Tx}
 use Rattle.sending.specs.Stuffing.{flag}
-use Rattle.sending.specs.Packing.{Puts, Ready, Room}
+use Rattle.sending.specs.Packing.{Puts, TxInRange, Room}
 use Rattle.bits.proofs.Typed.{array-of-octets}
 use Rattle.output.specs.Output.{sender, unitOut}
 use Rattle.output.proofs.Outputs.{fill-number, fillable, ready, unit-room, flag-room, fill-content, fill-refused, flag-done, fill-done}
@@ -36,7 +36,7 @@ put-flag-requires c κs =
     let n = c .before .before .before .before .before .before .before .shared-number in
     let e = fill-number (a .l) (a .output .now) (n .result) (n .ensures) in
     let ok = fillable (a .l) (a .output .now) (sym e ∙ c .before .before .before .before .before .before .if1 .left) in
-    subst (λ (x : Tx). Ready x × Room x flag (a .output .now)) (sym (c .before .sender-of .ensures))
+    subst (λ (x : Tx). TxInRange x × Room x flag (a .output .now)) (sym (c .before .sender-of .ensures))
     (ready (a .l) (ok .order) (s .good .0 .1 .1 .1 .1 .1 .1 .1 .1 .1 .1 .1 .0 .1 .1 .1 .1 .0 .1), flag-room (a .l) (a .output .now) ok)
 
 link-sent-requires : tie.Need-link-sent-requires

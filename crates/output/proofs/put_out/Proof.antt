@@ -2,7 +2,7 @@
 use mathlib.Core.Path.{sym, subst}
 use Rattle.sending.specs.declared.Tx.{Tx}
 use Rattle.sending.specs.Stuffing.{flag, unitLine}
-use Rattle.sending.specs.Packing.{Puts, Ready, Room}
+use Rattle.sending.specs.Packing.{Puts, TxInRange, Room}
 use Rattle.output.proofs.Outputs.{flagged-room, flagged-puts, first-room, then-ready, then-puts}
 use borrow.Author.Needs.{needs}
 use Rattle.output.proofs.put_out.Statement.{statement}
@@ -15,7 +15,7 @@ put-unit-requires : tie.Need-put-unit-requires
 put-unit-requires c κs =
     let s = c .before .before .before .before .before in
     let a = s .args in
-    subst (λ (x : Tx). Ready x × Room x (unitLine (a .content .now)) (a .output .now)) (sym (c .before .before .sender-of .ensures))
+    subst (λ (x : Tx). TxInRange x × Room x (unitLine (a .content .now)) (a .output .now)) (sym (c .before .before .sender-of .ensures))
     (s .pre .0, flagged-room (a .t) (a .content .now) (a .output .now) (c .before .if1 .taken) (s .pre .1))
 
 same-length : tie.Need-same-length
@@ -32,7 +32,7 @@ put-flag-requires : tie.Need-put-flag-requires
 put-flag-requires c κs =
     let s = c .before .before .before .before .before in
     let a = s .args in
-    subst (λ (x : Tx). Ready x × Room x flag (a .output .now)) (sym (c .before .before .sender-of .ensures))
+    subst (λ (x : Tx). TxInRange x × Room x flag (a .output .now)) (sym (c .before .before .sender-of .ensures))
     (s .pre .0, first-room (a .t) (a .content .now) (a .output .now) (c .before .if1 .left) (s .pre .1))
 
 put-unit-requires-2 : tie.Need-put-unit-requires-2

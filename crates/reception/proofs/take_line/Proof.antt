@@ -5,7 +5,7 @@ use Prim.Native.Nat.{_≤_, _-_}
 use mathlib.Core.Path.{_≡_, refl, sym, _∙_}
 use native.Mathlib.Omega.{arith}
 use lib.ListN.{length, take}
-use Rattle.marks.specs.Writing.{holding}
+use Rattle.indications.specs.Writing.{holding}
 use Rattle.reception.specs.Writing.{LineTaken}
 use Rattle.reception.proofs.Lines.{taken-none, taken-next, taken-all, same-out, room-left, next-able}
 

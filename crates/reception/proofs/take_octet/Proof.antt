@@ -6,7 +6,7 @@ use native.Mathlib.Omega.{arith}
 use Rattle.bits.specs.Octets.{bitsOf}
 use Rattle.framing.specs.Delimitation.{reading}
 use Rattle.framing.specs.Representation.{decode}
-use Rattle.marks.specs.Writing.{holding}
+use Rattle.indications.specs.Writing.{holding}
 use Rattle.reception.proofs.Octets.{Between, at-start, able, stands-in, shown, less, turn, ended}
 
 abbrev Inv-loop : tie.InvT-loop

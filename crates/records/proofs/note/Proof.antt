@@ -14,13 +14,13 @@ alarm-bit-requires c κs = search needs
 returns : tie.Need-returns
 returns c =
     let s = c .before .before .before .before .before .before .before .args in
-    event-way (s .limits) (s .watch) (s .h) (c .before .before .step .result) (c .alarm-bit .result) (search needs)
+    event-way (s .limits) (s .supervision) (s .h) (c .before .before .step .result) (c .alarm-bit .result) (search needs)
     (c .before .before .step .ensures) (c .alarm-bit .ensures)
 
 returns-2 : tie.Need-returns-2
 returns-2 c =
     let s = c .before .before .before .before .args in
-    sym (noted-none (s .limits) (s .watch) (s .h) (search needs))
+    sym (noted-none (s .limits) (s .supervision) (s .h) (search needs))
 
 pub note-spec : {M : Type 1} → statement M
 note-spec = tie.close (tie.spec step-requires alarm-bit-requires returns returns-2)

@@ -8,7 +8,7 @@ use Rattle.bits.specs.Octets.{odd, bitsOf}
 use Rattle.bits.proofs.Digits.{bits-cons}
 use Rattle.sending.specs.declared.Tx.{Tx}
 use Rattle.sending.specs.Stuffing.{flag}
-use Rattle.sending.proofs.Turns.{Rest, begins, first-room, goes, ends}
+use Rattle.sending.proofs.PutSteps.{Rest, begins, first-room, goes, ends}
 use Rattle.sending.proofs.put_flag.Statement.{statement}
 use Rattle.sending.proofs.put_flag.Tie as tie
 

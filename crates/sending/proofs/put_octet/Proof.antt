@@ -7,7 +7,7 @@ use native.Mathlib.Omega.{arith}
 use Rattle.bits.specs.Octets.{odd, bitsOf}
 use Rattle.bits.proofs.Digits.{bits-cons}
 use Rattle.sending.specs.declared.Tx.{Tx}
-use Rattle.sending.proofs.Turns.{Going, sets-out, going-room, goes-on, going-ends}
+use Rattle.sending.proofs.PutSteps.{Going, sets-out, going-room, goes-on, going-ends}
 use Rattle.sending.proofs.put_octet.Statement.{statement}
 use Rattle.sending.proofs.put_octet.Tie as tie
 

@@ -8,7 +8,7 @@ use lib.ListN.{length, drop, getD, drop-of-length-le}
 use Rattle.bits.specs.Octets.{bitsOf, lineBits}
 use Rattle.bits.proofs.Lines.{line-drop}
 use Rattle.sending.specs.declared.Tx.{Tx}
-use Rattle.sending.proofs.Turns.{Going, sets-out, going-room, goes-on, going-ends}
+use Rattle.sending.proofs.PutSteps.{Going, sets-out, going-room, goes-on, going-ends}
 use Rattle.sending.proofs.put_octets.Statement.{statement}
 use Rattle.sending.proofs.put_octets.Tie as tie
 

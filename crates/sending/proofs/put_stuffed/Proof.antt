@@ -1,7 +1,7 @@
 -- `sending::put_stuffed` meets its contract: a zero, a fifth one, or another one.
 use native.Mathlib.Omega.{arith}
 use borrow.Author.Needs.{needs}
-use Rattle.sending.proofs.Turns.{fifth-room, fifth, fewer, nought}
+use Rattle.sending.proofs.PutSteps.{fifth-room, fifth, fewer, nought}
 use Rattle.sending.proofs.put_stuffed.Statement.{statement}
 use Rattle.sending.proofs.put_stuffed.Tie as tie
 

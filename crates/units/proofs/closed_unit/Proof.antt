@@ -9,7 +9,7 @@ use Rattle.bits.specs.Octets.{lineBits}
 use Rattle.bits.specs.Format.{basic}
 use Rattle.framing.specs.declared.Verdict.{Verdict}
 use Rattle.framing.specs.Verdict.{verdictOf}
-use Rattle.units.specs.Desk.{office}
+use Rattle.units.specs.Units.{unitMemory}
 use Rattle.units.proofs.Closing.{area-length, good-octets, closed-short, closed-not-whole, closed-wrong, closed-good}
 use Rattle.units.proofs.closed_unit.Statement.{statement}
 use Rattle.units.proofs.closed_unit.Tie as tie
@@ -67,7 +67,7 @@ returns c =
     let v = m .before .before in
     let s = v .before .before .before in
     let a = s .args in
-    closed-short (now (a .area)) (a .bits) (s .pre .1 .0) (s .pre .1 .1) (a .s) (office (a .desk) (now (a .pool)) (now (a .descriptors)))
+    closed-short (now (a .area)) (a .bits) (s .pre .1 .0) (s .pre .1 .1) (a .s) (unitMemory (a .units) (now (a .pool)) (now (a .descriptors)))
     (judged v (m .enum-told .given .1)) (c .short-unit .ensures)
 
 same-length : tie.Need-same-length
@@ -83,7 +83,7 @@ returns-2 c =
     let v = m .before .before in
     let s = v .before .before .before in
     let a = s .args in
-    let o = office (a .desk) (now (a .pool)) (now (a .descriptors)) in
+    let o = unitMemory (a .units) (now (a .pool)) (now (a .descriptors)) in
     rw (closed-not-whole (now (a .area)) (a .bits) (s .pre .1 .0) (s .pre .1 .1) (a .s) o (judged v (m .enum-told2 .given .1))) (n .errored-unit .ensures)
 
 same-length-3 : tie.Need-same-length-3
@@ -99,7 +99,7 @@ returns-3 c =
     let v = m .before .before in
     let s = v .before .before .before in
     let a = s .args in
-    let o = office (a .desk) (now (a .pool)) (now (a .descriptors)) in
+    let o = unitMemory (a .units) (now (a .pool)) (now (a .descriptors)) in
     rw (closed-wrong (now (a .area)) (a .bits) (s .pre .1 .0) (s .pre .1 .1) (a .s) o (judged v (m .enum-told3 .given .1))) (n .errored-unit2 .ensures)
 
 same-length-5 : tie.Need-same-length-5
@@ -115,7 +115,7 @@ returns-4 c =
     let v = m .before .before in
     let s = v .before .before .before in
     let a = s .args in
-    let o = office (a .desk) (now (a .pool)) (now (a .descriptors)) in
+    let o = unitMemory (a .units) (now (a .pool)) (now (a .descriptors)) in
     rw (closed-good (now (a .area)) (a .bits) (s .pre .1 .0) (s .pre .1 .1) (a .s) o (judged v (m .enum-told4 .given .1))) (n .good-unit .ensures)
 
 pub closed-unit-spec : {M : Type 1} → statement M

@@ -17,8 +17,8 @@ store-next-requires c κs =
     let s = c .before .before .before .before .before .before .before .before .before .before .before in
     (omega (arith, s .pre), omega (arith, s .pre), omega (arith, s .pre))
 
-desk-of-requires : tie.Need-desk-of-requires
-desk-of-requires c κs = search needs
+unit-state-requires : tie.Need-unit-state-requires
+unit-state-requires c κs = search needs
 
 event-of-requires : tie.Need-event-of-requires
 event-of-requires c κs = search needs
@@ -36,12 +36,12 @@ returns c =
     let f = i .before .before .before .before .before .before in
     let s = f .before .before .before in
     let a = s .args in
-    errored-over (a .s) (a .desk) (now (a .pool)) (now (a .descriptors)) (now (a .area)) (a .count) (s .pre .1 .0) (s .pre .1 .1) (f .first-five .ensures)
+    errored-over (a .s) (a .units) (now (a .pool)) (now (a .descriptors)) (now (a .area)) (a .count) (s .pre .1 .0) (s .pre .1 .1) (f .first-five .ensures)
     (i .before .is-free .ensures) (a .status) (a .kind) (i .if1 .taken) (n .store-next .ensures .0) (n .store-next .ensures .1) (n .store-next .ensures .2)
-    (c .before .desk-of .ensures) (c .event-of .ensures)
+    (c .before .unit-state .ensures) (c .event-of .ensures)
 
-desk-of-requires-2 : tie.Need-desk-of-requires-2
-desk-of-requires-2 c κs = search needs
+unit-state-requires-2 : tie.Need-unit-state-requires-2
+unit-state-requires-2 c κs = search needs
 
 event-of-requires-2 : tie.Need-event-of-requires-2
 event-of-requires-2 c κs = search needs
@@ -55,8 +55,8 @@ returns-2 c =
     let f = i .before .before .before .before .before .before in
     let s = f .before .before .before in
     let a = s .args in
-    errored-lost (a .s) (a .desk) (now (a .pool)) (now (a .descriptors)) (now (a .area)) (a .count) (s .pre .1 .0) (s .pre .1 .1) (f .first-five .ensures)
-    (i .before .is-free .ensures) (a .status) (a .kind) (i .if1 .left) (c .before .desk-of2 .ensures) (c .event-of2 .ensures)
+    errored-lost (a .s) (a .units) (now (a .pool)) (now (a .descriptors)) (now (a .area)) (a .count) (s .pre .1 .0) (s .pre .1 .1) (f .first-five .ensures)
+    (i .before .is-free .ensures) (a .status) (a .kind) (i .if1 .left) (c .before .unit-state2 .ensures) (c .event-of2 .ensures)
 
 pub errored-unit-spec : {M : Type 1} → statement M
 errored-unit-spec =
@@ -65,12 +65,12 @@ errored-unit-spec =
     first-five-requires
     is-free-requires
     store-next-requires
-    desk-of-requires
+    unit-state-requires
     event-of-requires
     same-length
     same-length-2
     returns
-    desk-of-requires-2
+    unit-state-requires-2
     event-of-requires-2
     same-length-3
     returns-2)

@@ -29,8 +29,8 @@ store-next-requires c κs =
 count-over-requires : tie.Need-count-over-requires
 count-over-requires c κs = search needs
 
-desk-of-requires : tie.Need-desk-of-requires
-desk-of-requires c κs = search needs
+unit-state-requires : tie.Need-unit-state-requires
+unit-state-requires c κs = search needs
 
 event-of-requires : tie.Need-event-of-requires
 event-of-requires c κs = search needs
@@ -41,8 +41,8 @@ enum-told-2 c = search needs
 count-dropped-requires : tie.Need-count-dropped-requires
 count-dropped-requires c κs = search needs
 
-desk-of-requires-2 : tie.Need-desk-of-requires-2
-desk-of-requires-2 c κs = search needs
+unit-state-requires-2 : tie.Need-unit-state-requires-2
+unit-state-requires-2 c κs = search needs
 
 event-of-requires-2 : tie.Need-event-of-requires-2
 event-of-requires-2 c κs = search needs
@@ -53,8 +53,8 @@ enum-told-3 c = search needs
 count-lost-requires : tie.Need-count-lost-requires
 count-lost-requires c κs = search needs
 
-desk-of-requires-3 : tie.Need-desk-of-requires-3
-desk-of-requires-3 c κs = search needs
+unit-state-requires-3 : tie.Need-unit-state-requires-3
+unit-state-requires-3 c κs = search needs
 
 event-of-requires-3 : tie.Need-event-of-requires-3
 event-of-requires-3 c κs = search needs
@@ -75,9 +75,9 @@ returns c =
     let f = q .before .before .before in
     let s = f .before .before .before .before .before in
     let a = s .args in
-    good-over (a .s) (a .desk) (now (a .pool)) (now (a .descriptors)) (now (a .area)) (a .count) (s .pre .1 .1) (s .pre .1 .2) (f .first-five .ensures)
+    good-over (a .s) (a .units) (now (a .pool)) (now (a .descriptors)) (now (a .area)) (a .count) (s .pre .1 .1) (s .pre .1 .2) (f .first-five .ensures)
     (f .before .is-free .ensures) (s .pre .1 .0) (q .settle .ensures) (g .count-good .ensures) (m .enum-told .given .1) (n .store-next .ensures .0)
-    (n .store-next .ensures .1) (n .store-next .ensures .2) (o .count-over .ensures) (c .before .desk-of .ensures) (c .event-of .ensures)
+    (n .store-next .ensures .1) (n .store-next .ensures .2) (o .count-over .ensures) (c .before .unit-state .ensures) (c .event-of .ensures)
 
 same-length-3 : tie.Need-same-length-3
 same-length-3 c = search needs
@@ -91,9 +91,9 @@ returns-2 c =
     let f = q .before .before .before in
     let s = f .before .before .before .before .before in
     let a = s .args in
-    good-dropped (a .s) (a .desk) (now (a .pool)) (now (a .descriptors)) (now (a .area)) (a .count) (s .pre .1 .1) (s .pre .1 .2) (f .first-five .ensures)
+    good-dropped (a .s) (a .units) (now (a .pool)) (now (a .descriptors)) (now (a .area)) (a .count) (s .pre .1 .1) (s .pre .1 .2) (f .first-five .ensures)
     (f .before .is-free .ensures) (s .pre .1 .0) (q .settle .ensures) (g .count-good .ensures) (m .enum-told2 .given .1) (o .count-dropped .ensures)
-    (c .before .desk-of2 .ensures) (c .event-of2 .ensures)
+    (c .before .unit-state2 .ensures) (c .event-of2 .ensures)
 
 same-length-4 : tie.Need-same-length-4
 same-length-4 c = search needs
@@ -107,9 +107,9 @@ returns-3 c =
     let f = q .before .before .before in
     let s = f .before .before .before .before .before in
     let a = s .args in
-    good-lost (a .s) (a .desk) (now (a .pool)) (now (a .descriptors)) (now (a .area)) (a .count) (s .pre .1 .1) (s .pre .1 .2) (f .first-five .ensures)
+    good-lost (a .s) (a .units) (now (a .pool)) (now (a .descriptors)) (now (a .area)) (a .count) (s .pre .1 .1) (s .pre .1 .2) (f .first-five .ensures)
     (f .before .is-free .ensures) (s .pre .1 .0) (q .settle .ensures) (g .count-good .ensures) (m .enum-told3 .given .1) (o .count-lost .ensures)
-    (c .before .desk-of3 .ensures) (c .event-of3 .ensures)
+    (c .before .unit-state3 .ensures) (c .event-of3 .ensures)
 
 pub good-unit-spec : {M : Type 1} → statement M
 good-unit-spec =
@@ -122,15 +122,15 @@ good-unit-spec =
     enum-told
     store-next-requires
     count-over-requires
-    desk-of-requires
+    unit-state-requires
     event-of-requires
     enum-told-2
     count-dropped-requires
-    desk-of-requires-2
+    unit-state-requires-2
     event-of-requires-2
     enum-told-3
     count-lost-requires
-    desk-of-requires-3
+    unit-state-requires-3
     event-of-requires-3
     same-length
     same-length-2

@@ -1,4 +1,4 @@
--- `units::short_unit` meets its contract: its record has the whole octets, and the desk stays.
+-- `units::short_unit` meets its contract: its record has the whole octets, and the unit state stays.
 use Prim.Native.Nat.{ℕ, _≤_}
 use mathlib.Core.Bool.{false}
 use mathlib.Core.List.{List}
@@ -9,7 +9,7 @@ use denote.Ref.{now}
 use lib.ListN.{length, take}
 use lib.Seq.{length-take-le}
 use Rattle.records.specs.declared.Happening.{Happening}
-use Rattle.units.specs.Desk.{shortTaken}
+use Rattle.units.specs.Units.{shortTaken}
 use Rattle.units.proofs.short_unit.Statement.{statement}
 use Rattle.units.proofs.short_unit.Tie as tie
 
@@ -25,18 +25,18 @@ bare-of-requires : tie.Need-bare-of-requires
 bare-of-requires c κs = search needs
 
 -- the record's length and first octets are those of the whole octets
-noted : (s : tie.After-first-five) → bare 5 (s .before .args .count) (s .first-five .result) (s .before .args .desk .counts .good)
-    ≡ shortTaken (s .before .args .desk) (take (s .before .args .count) (now (s .before .args .area))) .happening
+noted : (s : tie.After-first-five) → bare 5 (s .before .args .count) (s .first-five .result) (s .before .args .units .counts .good)
+    ≡ shortTaken (s .before .args .units) (take (s .before .args .count) (now (s .before .args .area))) .happening
 noted s =
     let a = s .before .args in
     let h : a .count ≤ length (now (a .area)) = omega (arith, s .before .pre) in
-    λ i. bare 5 (sym (length-take-le (a .count) (now (a .area)) h) i) (s .first-five .ensures i) (a .desk .counts .good)
+    λ i. bare 5 (sym (length-take-le (a .count) (now (a .area)) h) i) (s .first-five .ensures i) (a .units .counts .good)
 
 returns : tie.Need-returns
 returns c =
-    let happening : (c .bare-of .result) ≡ shortTaken (c .before .before .args .desk) (take (c .before .before .args .count) (now (c .before .before .args .area))) .happening =
+    let happening : (c .bare-of .result) ≡ shortTaken (c .before .before .args .units) (take (c .before .before .args .count) (now (c .before .before .args .area))) .happening =
     c .bare-of .ensures ∙ noted (c .before) in
-    λ i. record { desk = c .before .before .args .desk; happening = happening i }
+    λ i. record { units = c .before .before .args .units; happening = happening i }
 
 pub short-unit-spec : {M : Type 1} → statement M
 short-unit-spec = tie.close (tie.spec first-five-requires bare-of-requires returns)

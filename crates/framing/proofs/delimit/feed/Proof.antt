@@ -9,7 +9,7 @@ use Rattle.bits.specs.Octets.{odd, bitsOf}
 use Rattle.bits.proofs.Digits.{bits-cons}
 use Rattle.framing.specs.Delimitation.{Receiver, Reading, reading}
 use Rattle.framing.specs.Representation.{decode, wellFormed}
-use Rattle.framing.proofs.Readings.{quiet-turn, loud-turn, at-end}
+use Rattle.framing.proofs.Readings.{quiet-round, loud-round, at-end}
 use Rattle.framing.proofs.delimit.feed.Statement.{statement}
 use Rattle.framing.proofs.delimit.feed.Tie as tie
 
@@ -44,7 +44,7 @@ returns c =
     let a = d .before .before .before .before .args in
     let goal = reading (a .m) (decode (a .line) (now (a .area))) (bitsOf (a .bits) (a .octet)) in
     let t = d .before .before .loop-test .taken in
-    loud-turn (a .m) goal (p .cur) (p .area) (odd (p .rest)) (bitsOf (p .left - 1) (p .rest / 2))
+    loud-round (a .m) goal (p .cur) (p .area) (odd (p .rest)) (bitsOf (p .left - 1) (p .rest / 2))
     (first (a .m) (decode (p .cur) (p .area)) (p .left) (p .rest) goal t (p .inv .2))
     (d .step-bit .result) (d .step-bit .last .1 .1 .0) (d .step-bit .ensures)
     (sym (c .before .is-found .ensures) ∙ c .if1 .taken) (p .rest / 2) (p .left - 1) refl (omega (arith, p .inv .0))
@@ -59,7 +59,7 @@ loop-again c =
     let a = d .before .before .before .before .args in
     let goal = reading (a .m) (decode (a .line) (now (a .area))) (bitsOf (a .bits) (a .octet)) in
     let t = d .before .before .loop-test .taken in
-    let w = quiet-turn (a .m) goal (p .cur) (p .area) (odd (p .rest)) (bitsOf (p .left - 1) (p .rest / 2))
+    let w = quiet-round (a .m) goal (p .cur) (p .area) (odd (p .rest)) (bitsOf (p .left - 1) (p .rest / 2))
     (first (a .m) (decode (p .cur) (p .area)) (p .left) (p .rest) goal t (p .inv .2))
     (d .step-bit .result) (d .step-bit .last .1 .1 .0) (d .step-bit .ensures)
     (sym (c .before .before .is-found .ensures) ∙ c .before .if1 .left) in

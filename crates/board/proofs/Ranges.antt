@@ -1,0 +1,119 @@
+-- What a link that is not malformed obeys.
+use Prim.Native.Nat.{ℕ, _+_, _*_, _≤_, _<_}
+use mathlib.Core.Path.{_≡_, refl, sym, ap, _∙_}
+use mathlib.Core.Bool.{Bool, true, false, not, _&&_, _||_, false≢true}
+use mathlib.Core.List.{List, [], _∷_}
+use native.Mathlib.Omega.{arith}
+use lib.Dec.{leb, ltb}
+use borrow.Author.Tests.{leb-true, leb-false, ltb-true, ltb-false, not-true, not-false}
+use Rattle.monitor.specs.declared.Mode.{Mode}
+use Rattle.monitor.specs.declared.Mode.the-variants.{Off, Failure, Alignment, Idle}
+use Rattle.board.specs.declared.Settings.{Settings}
+use Rattle.board.specs.declared.Link.{Link}
+use Rattle.board.specs.Malformed.{pick, zeroPast, inRange, lineOut, counterOut, countOut, monitorOut, transmitterOut, openMalformed, isNew, malformed}
+
+pub when-open : (l : Link) → l .opened ≡ true → malformed l ≡ openMalformed l
+unfolding malformed
+when-open l e = ap (λ (b : Bool). pick b (openMalformed l) (not (isNew l))) e
+
+pub when-closed : (l : Link) → l .opened ≡ false → malformed l ≡ not (isNew l)
+unfolding malformed
+when-closed l e = ap (λ (b : Bool). pick b (openMalformed l) (not (isNew l))) e
+
+-- ---- tests taken apart
+pub both : (a b : Bool) → a && b ≡ true → (a ≡ true) × (b ≡ true)
+both true b e = (refl, e)
+both false b e = absurd (false≢true e)
+
+pub neither : (a b : Bool) → a || b ≡ false → (a ≡ false) × (b ≡ false)
+neither true b e = absurd (false≢true (sym e))
+neither false b e = (refl, e)
+
+-- ---- the settings
+pub record Ranges (s : Settings) : Type 0 where
+  pub k : (1 ≤ s .k) × (s .k ≤ 16)
+  pub m : (7 ≤ s .m) × (s .m ≤ 278)
+  pub n : (1 ≤ s .n) × (s .n ≤ 1024)
+  pub t : (1 ≤ s .t) × (s .t ≤ 1024)
+  pub d : (1 ≤ s .d) × (s .d ≤ 1024)
+  pub a : (1 ≤ s .a) × (s .a ≤ 1024)
+
+pub ranges : (s : Settings) → inRange s ≡ true → Ranges s
+unfolding inRange
+ranges s e =
+    let e11 = both _ _ e in
+    let e10 = both _ _ (e11 .0) in
+    let e9 = both _ _ (e10 .0) in
+    let e8 = both _ _ (e9 .0) in
+    let e7 = both _ _ (e8 .0) in
+    let e6 = both _ _ (e7 .0) in
+    let e5 = both _ _ (e6 .0) in
+    let e4 = both _ _ (e5 .0) in
+    let e3 = both _ _ (e4 .0) in
+    let e2 = both _ _ (e3 .0) in
+    let e1 = both _ _ (e2 .0) in
+    record {
+      k = (leb-true 1 (s .k) (e1 .0), leb-true (s .k) 16 (e1 .1));
+      m = (leb-true 7 (s .m) (e2 .1), leb-true (s .m) 278 (e3 .1));
+      n = (leb-true 1 (s .n) (e4 .1), leb-true (s .n) 1024 (e5 .1));
+      t = (leb-true 1 (s .t) (e6 .1), leb-true (s .t) 1024 (e7 .1));
+      d = (leb-true 1 (s .d) (e8 .1), leb-true (s .d) 1024 (e9 .1));
+      a = (leb-true 1 (s .a) (e10 .1), leb-true (s .a) 1024 (e11 .1));
+    }
+
+-- ---- an open link that is not malformed
+pub record InOrder (l : Link) : Type 0 where
+  pub area : zeroPast (l .line .state .bits) (l .line .area) ≡ true
+  pub settings : Ranges (l .settings)
+  pub run : l .line .state .run ≤ 7
+  pub bits : l .line .state .bits ≤ 8 * l .settings .m + 7
+  pub idle : l .line .state .hunting ≡ true → l .line .state .bits ≡ 0
+  pub counter : (1 ≤ l .counting .left) × (l .counting .left ≤ l .settings .n)
+  pub number : l .monitor .number < l .settings .d
+  pub count : countOut (l .monitor .mode) (l .settings) (l .monitor .count) ≡ false
+  pub next : l .slots .next < l .settings .k
+  pub waiting : l .transmitter .count ≤ 7
+  pub unflagged : l .transmitter .flagged ≡ false → l .transmitter .count ≡ 0
+  pub wait : zeroPast (l .transmitter .count) (l .transmitter .wait ∷ []) ≡ true
+
+none-while : (b : Bool) (n : ℕ) → b && ltb 0 n ≡ false → b ≡ true → n ≡ 0
+none-while true n e q = let z = ltb-false 0 n e in omega arith
+none-while false n e q = absurd (false≢true q)
+
+pub in-order : (l : Link) → l .opened ≡ true → malformed l ≡ false → InOrder l
+unfolding openMalformed lineOut counterOut monitorOut transmitterOut
+in-order l o e =
+    let f = sym (when-open l o) ∙ e in
+    let f6 = neither _ _ f in
+    let f5 = neither _ _ (f6 .0) in
+    let f4 = neither _ _ (f5 .0) in
+    let f3 = neither _ _ (f4 .0) in
+    let f2 = neither _ _ (f3 .0) in
+    let f1 = neither _ _ (f2 .0) in
+    let line = neither _ _ (f2 .1) in
+    let low = neither _ _ (line .0) in
+    let counter = neither _ _ (f3 .1) in
+    let mon = neither _ _ (f4 .1) in
+    let send = neither _ _ (f6 .1) in
+    let few = neither _ _ (send .0) in
+    record {
+      area = not-false _ (f1 .0);
+      settings = ranges (l .settings) (not-false _ (f1 .1));
+      run = ltb-false 7 (l .line .state .run) (low .0);
+      bits = ltb-false (8 * l .settings .m + 7) (l .line .state .bits) (low .1);
+      idle = none-while (l .line .state .hunting) (l .line .state .bits) (line .1);
+      counter = (ltb-false (l .counting .left) 1 (counter .0), ltb-false (l .settings .n) (l .counting .left) (counter .1));
+      number = leb-false (l .settings .d) (l .monitor .number) (mon .0);
+      count = mon .1;
+      next = leb-false (l .settings .k) (l .slots .next) (f5 .1);
+      waiting = ltb-false 7 (l .transmitter .count) (few .0);
+      unflagged = λ q. none-while (not (l .transmitter .flagged)) (l .transmitter .count) (few .1) (ap not q);
+      wait = not-false _ (send .1);
+    }
+
+-- the monitor's count fits whatever the mode
+pub count-le : (mode : Mode) (s : Settings) (count : ℕ) → Ranges s → countOut mode s count ≡ false → count ≤ 1024
+count-le Failure s count r e = let z = leb-false (s .t) count e in omega (arith, r .t)
+count-le Alignment s count r e = let z = leb-false (s .a) count e in omega (arith, r .a)
+count-le Idle s count r e = ltb-false 1024 count e
+count-le Off s count r e = ltb-false 1024 count e

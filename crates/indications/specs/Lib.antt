@@ -1,0 +1,2 @@
+-- One indication, from unit state to record.
+pub mod Writing

@@ -1,0 +1,78 @@
+-- An indication as the code has it: with the record area and the number of records written.
+use Prim.Native.Nat.{ℕ, _+_, _*_, _≤_}
+use mathlib.Core.Path.{_≡_}
+use mathlib.Core.List.{List, []}
+use lib.ListN.{length, take}
+use lib.Seq.{sets}
+use Rattle.monitor.specs.declared.Limits.{Limits}
+use Rattle.records.specs.declared.Supervision.{Supervision}
+use Rattle.records.specs.Promises.{LimitsInRange, MonitorInRange}
+use Rattle.records.specs.Record.{supervised, recorded, supervisionAfter, recordsOf}
+use Rattle.framing.specs.Delimitation.{Finding}
+use Rattle.bits.specs.Octets.{lineBits, packed}
+use Rattle.framing.specs.declared.Found.{Found}
+use Rattle.framing.specs.declared.Found.the-variants.{Nothing, Closed, Abort, Long}
+use Rattle.framing.specs.Representation.{shows, unitIn}
+use Rattle.board.specs.declared.Settings.{Settings}
+use Rattle.units.specs.declared.Taken.{Taken}
+use Rattle.units.specs.Fit.{Fits}
+use Rattle.units.specs.Indications.{Indication}
+use Rattle.units.specs.Units.{UnitMemory, unitMemory, unitMemoryAfter, happenings}
+use Rattle.indications.specs.declared.Progress.{Progress}
+
+abbrev pub monitorLimits : Settings → Limits
+monitorLimits s = record { t = s .t; d = s .d; a = s .a }
+
+pub record Written : Type 0 where
+  pub unitMemory : UnitMemory
+  pub supervision : Supervision
+  pub out : List ℕ
+  pub count : ℕ
+
+-- what the code holds between two indications
+abbrev pub holding : Progress → List ℕ → List ℕ → List ℕ → Written
+holding p pool descriptors out = record { unitMemory = unitMemory (p .units) pool descriptors; supervision = p .supervision; out = out; count = p .count }
+
+-- after indications: the records stand one after the other
+unfoldable pub indicationsDone : Settings → Written → List Indication → Written
+indicationsDone s w ms =
+    let hs = happenings s (w .unitMemory) ms in
+    record {
+      unitMemory = unitMemoryAfter s (w .unitMemory) ms;
+      supervision = supervisionAfter (monitorLimits s) (w .supervision) hs;
+      out = sets (w .out) (16 * w .count) (recordsOf (monitorLimits s) (w .supervision) hs);
+      count = w .count + length hs;
+    }
+
+-- one happening noted and recorded
+pub record NotedAndRecorded (s : Settings) (taken : Taken) (w : Supervision) (count : ℕ) (out : List ℕ) (r : Progress) (out′ : List ℕ) : Type 0 where
+  pub progress : r ≡ record { units = taken .units; supervision = supervised (monitorLimits s) w (taken .happening); count = count + 1 }
+  pub area : out′ ≡ sets out (16 * count) (recorded (monitorLimits s) w (taken .happening))
+
+-- what the code needs between two indications: limits and monitor in range, memory that fits, and room for one record
+pub record Able (s : Settings) (p : Progress) (pool descriptors out : List ℕ) : Type 0 where
+  pub longest : (7 ≤ s .m) × (s .m ≤ 278)
+  pub limits : LimitsInRange (monitorLimits s)
+  pub monitor : MonitorInRange (monitorLimits s) (p .supervision .monitor)
+  pub fits : Fits s (p .units) pool descriptors
+  pub room : 16 * p .count + 16 ≤ length out
+
+-- a closed unit stands in the area, with the seven bits of its flag behind it and zero past them
+abbrev pub StandsIn : Found → List ℕ → Type 0
+StandsIn Nothing area = Unit {0}
+StandsIn (Closed n) area = (n ≤ 2224) × (area ≡ packed 279 (take (n + 7) (lineBits area)))
+StandsIn Abort area = Unit {0}
+StandsIn Long area = Unit {0}
+
+-- a finding as the code shows it, a closed unit's bits being at the front of the area
+pub record Shown (fs : List Finding) (f : Found) (area : List ℕ) : Type 0 where
+  pub is : f ≡ shows fs
+  pub single : length fs ≤ 1
+  pub unit : take (length (unitIn fs)) (lineBits area) ≡ unitIn fs
+
+-- the area once a finding is dealt with: only a closed unit stood in it
+abbrev pub areaAfter : Found → List ℕ → List ℕ
+areaAfter Nothing area = area
+areaAfter (Closed n) area = packed 279 []
+areaAfter Abort area = area
+areaAfter Long area = area

@@ -1,2 +1,0 @@
--- One mark, from desk to record.
-pub mod Writing
