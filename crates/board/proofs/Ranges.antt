@@ -1,7 +1,7 @@
 -- What a link that is not malformed obeys.
 use Prim.Native.Nat.{ℕ, _+_, _*_, _≤_, _<_}
 use mathlib.Core.Path.{_≡_, refl, sym, ap, _∙_}
-use mathlib.Core.Bool.{Bool, true, false, not, _&&_, _||_, false≢true}
+use mathlib.Core.Bool.{Bool, true, false, not, _&&_, _||_, false≢true, cond}
 use mathlib.Core.List.{List, [], _∷_}
 use native.Mathlib.Omega.{arith}
 use lib.Dec.{leb, ltb}
@@ -10,15 +10,15 @@ use Rattle.monitor.specs.declared.Mode.{Mode}
 use Rattle.monitor.specs.declared.Mode.the-variants.{Off, Failure, Alignment, Idle}
 use Rattle.board.specs.declared.Settings.{Settings}
 use Rattle.board.specs.declared.Link.{Link}
-use Rattle.board.specs.Malformed.{pick, zeroPast, inRange, lineOut, counterOut, countOut, monitorOut, transmitterOut, openMalformed, isNew, malformed}
+use Rattle.board.specs.Malformed.{zeroPast, inRange, lineOut, counterOut, countOut, monitorOut, transmitterOut, openMalformed, isNew, malformed}
 
 pub when-open : (l : Link) → l .opened ≡ true → malformed l ≡ openMalformed l
 unfolding malformed
-when-open l e = ap (λ (b : Bool). pick b (openMalformed l) (not (isNew l))) e
+when-open l e = ap (λ (b : Bool). cond b (openMalformed l) (not (isNew l))) e
 
 pub when-closed : (l : Link) → l .opened ≡ false → malformed l ≡ not (isNew l)
 unfolding malformed
-when-closed l e = ap (λ (b : Bool). pick b (openMalformed l) (not (isNew l))) e
+when-closed l e = ap (λ (b : Bool). cond b (openMalformed l) (not (isNew l))) e
 
 -- ---- tests taken apart
 pub both : (a b : Bool) → a && b ≡ true → (a ≡ true) × (b ≡ true)

@@ -1,6 +1,6 @@
 -- When a link is malformed, in document 01's words and order.
 use Prim.Native.Nat.{ℕ, _+_, _*_}
-use mathlib.Core.Bool.{Bool, true, false, not, _&&_, _||_}
+use mathlib.Core.Bool.{Bool, true, false, not, _&&_, _||_, cond}
 use mathlib.Core.List.{List, [], _∷_}
 use lib.Dec.{eqb, leb, ltb}
 use lib.ListN.{drop}
@@ -85,9 +85,5 @@ isNew l =
     && not (l .transmitter .flagged)) && not (l .transmitter .sent)
 
 -- "A closed link is malformed exactly if it isn't that new link; an open one if [..]"
-abbrev pub pick : Bool → Bool → Bool → Bool
-pick true a b = a
-pick false a b = b
-
 unfoldable pub malformed : Link → Bool
-malformed l = pick (l .opened) (openMalformed l) (not (isNew l))
+malformed l = cond (l .opened) (openMalformed l) (not (isNew l))

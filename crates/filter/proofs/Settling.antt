@@ -2,7 +2,7 @@
 use Prim.Native.Nat.{ℕ}
 use mathlib.Core.Path.{_≡_, refl, sym, ap, _∙_}
 use mathlib.Core.Logic.{_↔_}
-use mathlib.Core.Bool.{Bool, true, false, _&&_}
+use mathlib.Core.Bool.{Bool, true, false, _&&_, cond}
 use mathlib.Core.List.{List}
 use lib.Dec.{eqb}
 use lib.ListN.{length, take}
@@ -11,7 +11,7 @@ use Rattle.filter.specs.declared.Fate.the-variants.{HandedOver, Dropped,
 use Rattle.filter.specs.declared.Memory.{Memory}
 use Rattle.filter.specs.declared.Settled.{Settled}
 use Rattle.filter.specs.Unit.{kindOf, masked, same}
-use Rattle.filter.specs.Memory.{emptyMemory, holdsLike, repeats, drops, forgets, pickMemory, remembers, settled}
+use Rattle.filter.specs.Memory.{emptyMemory, holdsLike, repeats, drops, forgets, remembers, settled}
 use Rattle.filter.proofs.Likeness.{masked-five}
 
 module _ (on : Bool) (mask : List ℕ) (m : Memory) (u : List ℕ) where
@@ -57,11 +57,11 @@ module _ (on : Bool) (mask : List ℕ) (m : Memory) (u : List ℕ) where
     goes-dropped free d = sym (when-dropped free (sym (x .its-drop) ∙ d))
 
     pub goes-over : {free : Bool} {kept : Memory} → dropped ≡ false → free ≡ true
-        → kept ≡ pickMemory on (forgets kind (record { length = octets; octets = five; alike = like })) emptyMemory
+        → kept ≡ cond on (forgets kind (record { length = octets; octets = five; alike = like })) emptyMemory
         → record { fate = HandedOver; memory = kept } ≡ settled on mask m u free
     goes-over {free} {kept} d f k =
         let k′ : kept ≡ remembers on mask m u =
-        k ∙ (λ i. pickMemory on (forgets (x .its-kind i) (record { length = sym (x .long) i; octets = x .its-five i; alike = x .its-like i })) emptyMemory) in
+        k ∙ (λ i. cond on (forgets (x .its-kind i) (record { length = sym (x .long) i; octets = x .its-five i; alike = x .its-like i })) emptyMemory) in
         sym (ap (settled on mask m u) f ∙ when-over (sym (x .its-drop) ∙ d) ∙ (λ i. record { fate = HandedOver; memory = sym k′ i }))
 
     pub goes-lost : {free : Bool} {kept : Memory} → dropped ≡ false → free ≡ false → kept ≡ emptyMemory → record { fate = Lost; memory = kept } ≡ settled on mask m u free

@@ -1,7 +1,7 @@
 -- All that the proofs use of how a unit's kind comes from its octets.
 use Prim.Native.Nat.{ℕ, _≤_}
 use mathlib.Core.Path.{_≡_, refl}
-use mathlib.Core.Bool.{Bool, true, false, _||_}
+use mathlib.Core.Bool.{Bool, true, false, _||_, cond}
 use mathlib.Core.List.{List}
 use native.Mathlib.Omega.{arith}
 use lib.Dec.{eqb}
@@ -9,7 +9,7 @@ use lib.ListN.{length}
 use borrow.Author.Tests.{eqb-true, eq-eqb, ne-eqb}
 use Rattle.filter.specs.declared.Kind.{Kind}
 use Rattle.filter.specs.declared.Kind.the-variants.{FillIn, LinkStatus, Message}
-use Rattle.filter.specs.Unit.{pickKind, kindOf}
+use Rattle.filter.specs.Unit.{kindOf}
 use Rattle.filter.specs.Predecessors.{isMessage}
 
 -- ---- from the length to the kind
@@ -36,7 +36,7 @@ module _ (u : List ℕ) where
   unfolding kindOf
   fill-in-length k = go (eqb (length u) 5) refl (eqb (length u) 6 || eqb (length u) 7) k
     where
-      go : (a : Bool) → eqb (length u) 5 ≡ a → (b : Bool) → pickKind a FillIn (pickKind b LinkStatus Message) ≡ FillIn → length u ≡ 5
+      go : (a : Bool) → eqb (length u) 5 ≡ a → (b : Bool) → cond a FillIn (cond b LinkStatus Message) ≡ FillIn → length u ≡ 5
       go true e b k = eqb-true (length u) 5 e
       go false e true k = cc
       go false e false k = cc
@@ -46,7 +46,7 @@ module _ (u : List ℕ) where
   status-length k = go (eqb (length u) 5) (eqb (length u) 6) refl (eqb (length u) 7) refl k
     where
       go : (a b : Bool) → eqb (length u) 6 ≡ b → (c : Bool) → eqb (length u) 7 ≡ c
-          → pickKind a FillIn (pickKind (b || c) LinkStatus Message) ≡ LinkStatus → (6 ≤ length u) × (length u ≤ 7)
+          → cond a FillIn (cond (b || c) LinkStatus Message) ≡ LinkStatus → (6 ≤ length u) × (length u ≤ 7)
       go true b e c f k = let y : _≡_ {A = ℕ} 0 1 = cc in absurd (omega arith)
       go false true e c f k = omega (arith, eqb-true (length u) 6 e)
       go false false e true f k = omega (arith, eqb-true (length u) 7 f)

@@ -1,6 +1,6 @@
 -- The filter by its memory.
 use Prim.Native.Nat.{ℕ}
-use mathlib.Core.Bool.{Bool, true, false, _&&_}
+use mathlib.Core.Bool.{Bool, true, false, _&&_, cond}
 use mathlib.Core.List.{List, [], _∷_}
 use lib.Dec.{eqb}
 use lib.ListN.{length}
@@ -36,26 +36,18 @@ forgets FillIn m = m
 forgets LinkStatus m = m
 forgets Message m = emptyMemory
 
-abbrev pub pickMemory : Bool → Memory → Memory → Memory
-pickMemory true a b = a
-pickMemory false a b = b
-
 -- "Otherwise it goes to a slot, and the memory holds its length, its masked octets and whether the unit before was alike.
 -- With the filter off the memory stays empty. A message unit [empties] the memory."
 abbrev pub remembers : Bool → List ℕ → Memory → List ℕ → Memory
 remembers on mask m u =
-    pickMemory on (forgets (kindOf u) (record { length = length u; octets = masked mask u; alike = holdsLike mask m u })) emptyMemory
-
-abbrev pub pick : Bool → Settled → Settled → Settled
-pick true a b = a
-pick false a b = b
+    cond on (forgets (kindOf u) (record { length = length u; octets = masked mask u; alike = holdsLike mask m u })) emptyMemory
 
 -- What becomes of a good unit whose next slot is free or not: dropped, and the memory is left as it is; or handed over and
 -- remembered; or lost, and "a lost good unit [empties] the memory".
 unfoldable pub settled : Bool → List ℕ → Memory → List ℕ → Bool → Settled
 settled on mask m u free =
-    pick (drops on mask m u) (record { fate = Dropped; memory = m })
-    (pick free (record { fate = HandedOver; memory = remembers on mask m u }) (record { fate = Lost; memory = emptyMemory }))
+    cond (drops on mask m u) (record { fate = Dropped; memory = m })
+    (cond free (record { fate = HandedOver; memory = remembers on mask m u }) (record { fate = Lost; memory = emptyMemory }))
 
 -- What the filteris given from opening on: a good unit with whether its slot was free, and command 4. Units with errors are set aside.
 pub data FilterInput : Type 0 where

@@ -1,6 +1,6 @@
 -- A unit is the list of its octets, check octets included. Its kind, and when two are alike.
 use Prim.Native.Nat.{ℕ}
-use mathlib.Core.Bool.{Bool, true, false, _&&_, _||_}
+use mathlib.Core.Bool.{Bool, true, false, _&&_, _||_, cond}
 use mathlib.Core.List.{List, [], _∷_}
 use lib.Bits.{bitAnd}
 use lib.Dec.{eqb}
@@ -8,13 +8,9 @@ use lib.ListN.{length}
 use Rattle.filter.specs.declared.Kind.{Kind}
 use Rattle.filter.specs.declared.Kind.the-variants.{FillIn, LinkStatus, Message}
 
-abbrev pub pickKind : Bool → Kind → Kind → Kind
-pickKind true a b = a
-pickKind false a b = b
-
 -- "The kind comes from length: 5 octets is fill-in, 6 or 7 link status, more is message."
 unfoldable pub kindOf : List ℕ → Kind
-kindOf u = pickKind (eqb (length u) 5) FillIn (pickKind (eqb (length u) 6 || eqb (length u) 7) LinkStatus Message)
+kindOf u = cond (eqb (length u) 5) FillIn (cond (eqb (length u) 6 || eqb (length u) 7) LinkStatus Message)
 
 -- the first octets of a unit under a mask, as many as the mask has
 unfoldable pub masked : List ℕ → List ℕ → List ℕ

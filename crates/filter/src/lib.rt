@@ -1,12 +1,12 @@
 // The repeat filter: what becomes of a good unit, and what the filter remembers of it. State goes in by value and comes back by value.
 ghost use mathlib.Core.Path.{_≡_};
-ghost use mathlib.Core.Bool.{_&&_};
+ghost use mathlib.Core.Bool.{_&&_, cond};
 ghost use mathlib.Core.List.{List};
 ghost use Prim.Native.Nat.{ℕ};
 ghost use lib.Dec.{eqb};
 ghost use lib.ListN.{length, take};
 ghost use Rattle.filter.specs.Unit.{kindOf, masked, same};
-ghost use Rattle.filter.specs.Memory.{emptyMemory, repeats, forgets, pickMemory, settled};
+ghost use Rattle.filter.specs.Memory.{emptyMemory, repeats, forgets, settled};
 
 // Fill-in unit (FISU), link status unit (LSSU), message unit (MSU).
 pub enum Kind {
@@ -111,7 +111,7 @@ fn is_dropped(on: bool, kind: Kind, like: bool, before: bool) -> bool
 
 // What is remembered of a unit that goes to a slot: itself, unless it is a message or the filter is off.
 fn remembered(on: bool, kind: Kind, unit: Memory) -> Memory
-    ensures { λ r. ⌜ r ≡ pickMemory on (forgets kind unit) emptyMemory ⌝ }
+    ensures { λ r. ⌜ r ≡ cond on (forgets kind unit) emptyMemory ⌝ }
 {
     if on {
         match kind {

@@ -1,6 +1,6 @@
 -- What is to be said of a closed unit, in document 01's order.
 use Prim.Native.Nat.{ℕ, _*_, _%_}
-use mathlib.Core.Bool.{Bool, true, false}
+use mathlib.Core.Bool.{Bool, true, false, cond}
 use mathlib.Core.List.{List}
 use lib.Dec.{eqb, ltb}
 use lib.ListN.{length}
@@ -9,12 +9,8 @@ use Rattle.fcs.specs.Check.{checkBits, goodResidue}
 use Rattle.framing.specs.declared.Verdict.{Verdict}
 use Rattle.framing.specs.declared.Verdict.the-variants.{Short, NotWhole, CheckWrong, Good}
 
-abbrev pub pick : Bool → Verdict → Verdict → Verdict
-pick true a b = a
-pick false a b = b
-
 -- "A closed unit of 1 to 39 bits is short [..]. Otherwise: not whole octets, then check wrong, then good."
 unfoldable pub verdictOf : Format → List Bool → Verdict
 verdictOf f u =
-    pick (ltb (length u) (fillInOctets f * 8)) Short
-    (pick (eqb (length u % 8) 0) (pick (eqb (checkBits 0xffff u) goodResidue) Good CheckWrong) NotWhole)
+    cond (ltb (length u) (fillInOctets f * 8)) Short
+    (cond (eqb (length u % 8) 0) (cond (eqb (checkBits 0xffff u) goodResidue) Good CheckWrong) NotWhole)

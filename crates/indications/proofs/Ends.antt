@@ -1,7 +1,7 @@
 -- The end of a line octet: the tick, or none.
 use Prim.Native.Nat.{ℕ, _-_}
 use mathlib.Core.Path.{_≡_, refl, sym, ap, ap₂, _∙_}
-use mathlib.Core.Bool.{Bool, true, false}
+use mathlib.Core.Bool.{Bool, true, false, cond}
 use mathlib.Core.List.{List, [], _∷_}
 use lib.Dec.{eqb}
 use borrow.Author.Tests.{eq-eqb, ne-eqb}
@@ -10,12 +10,12 @@ use Rattle.board.specs.declared.Settings.{Settings}
 use Rattle.units.specs.declared.UnitState.{UnitState}
 use Rattle.units.specs.declared.Taken.{Taken}
 use Rattle.units.specs.Indications.{octetEnd}
-use Rattle.units.specs.Units.{UnitMemory, unitMemory, Effect, effect, unitStateOf, pickℕ, ticks, tickOf, octetEffect, effectOf}
+use Rattle.units.specs.Units.{UnitMemory, unitMemory, Effect, effect, unitStateOf, ticks, tickOf, octetEffect, effectOf}
 use Rattle.indications.specs.declared.Progress.{Progress}
 use Rattle.indications.specs.Writing.{holding, indicationsDone, NotedAndRecorded}
 use Rattle.indications.proofs.Recording.{indication-one, indication-quiet}
 
-module _ (s : Settings) (p : Progress) (left : ℕ) (e : left ≡ pickℕ (eqb (p .units .counting .left) 1) (s .n) (p .units .counting .left - 1)) where
+module _ (s : Settings) (p : Progress) (left : ℕ) (e : left ≡ cond (eqb (p .units .counting .left) 1) (s .n) (p .units .counting .left - 1)) where
   -- the unit state with the counter moved on
   abbrev pub moved : UnitState
   moved =

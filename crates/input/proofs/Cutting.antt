@@ -1,7 +1,7 @@
 -- Receive in one call or in two, and the sum that the good count is.
 use Prim.Native.Nat.{ℕ, zero, suc, _+_, _*_, _≤_}
 use mathlib.Core.Path.{_≡_, refl, sym, ap, ap₂, subst, _∙_}
-use mathlib.Core.Bool.{Bool, true, false}
+use mathlib.Core.Bool.{Bool, true, false, cond}
 use mathlib.Core.List.{List, [], _∷_, _++_}
 use native.Mathlib.Omega.{arith}
 use lib.Dec.{eqb}
@@ -20,7 +20,7 @@ use Rattle.units.specs.Units.{happenings}
 use Rattle.units.specs.Promises.{Sums}
 use Rattle.reception.specs.Line.{Board, boardAfter, lineHappenings, lineRecords}
 use Rattle.reception.proofs.Cutting.{board-cut, records-cut, sixteen-each, three-each, sum-over-line}
-use Rattle.link.specs.Refusals.{pick, rising, openNumber, commandNumber}
+use Rattle.link.specs.Refusals.{rising, openNumber, commandNumber}
 use Rattle.input.specs.Refusals.{receiveFaults, receiveNumber}
 use Rattle.link.specs.Calls.{Outcome, openedLink, openAnswer, obeyed, commandAnswer}
 use Rattle.link.specs.declared.Answer.{Answer}
@@ -141,7 +141,7 @@ unfolding receiveAnswer
 sum-kept-by-receive l octets pool descriptors records e = go (eqb (receiveNumber l octets pool descriptors records) 0)
   where
     go : (c : Bool)
-        → Sums (pick c (received l octets pool descriptors records)
+        → Sums (cond c (received l octets pool descriptors records)
         (record { number = receiveNumber l octets pool descriptors records; link = l; count = 0; pool = pool; descriptors = descriptors; records = records }) .link .counts)
     go true = sum-over-line (l .settings) (boardOf l pool descriptors) octets e
     go false = e
@@ -161,7 +161,7 @@ unfolding commandAnswer
 sum-kept-by-command l command e = go (eqb (commandNumber l command) 0)
   where
     go : (b : Bool)
-        → Sums (pick {A = Answer} b (record { number = 0; link = obeyed command l }) (record { number = commandNumber l command; link = l }) .link .counts)
+        → Sums (cond {A = Answer} b (record { number = 0; link = obeyed command l }) (record { number = commandNumber l command; link = l }) .link .counts)
     go true = subst Sums (sym (obeyed-counts command l)) e
     go false = e
 
@@ -171,7 +171,7 @@ unfolding receiveAnswer lineHappenings lineRecords happenings lineIndications re
 no-octets l pool descriptors records = go (eqb (receiveNumber l [] pool descriptors records) 0)
   where
     go : (b : Bool)
-        → let o = pick b (received l [] pool descriptors records)
+        → let o = cond b (received l [] pool descriptors records)
         (record { number = receiveNumber l [] pool descriptors records; link = l; count = 0; pool = pool; descriptors = descriptors; records = records }) in
         (o .count ≡ 0) × (o .records ≡ records)
     go true = (refl, refl)

@@ -1,4 +1,5 @@
 -- Receive: line octets in; the link, the lent memory and the records after them.
+use mathlib.Core.Bool.{cond}
 use Prim.Native.Nat.{ℕ}
 use mathlib.Core.List.{List}
 use lib.Dec.{eqb}
@@ -10,7 +11,6 @@ use Rattle.board.specs.declared.Gathering.{Gathering}
 use Rattle.units.specs.Units.{unitMemory}
 use Rattle.indications.specs.declared.Progress.{Progress}
 use Rattle.reception.specs.Line.{Board, boardAfter, lineHappenings, lineRecords}
-use Rattle.link.specs.Refusals.{pick}
 use Rattle.input.specs.Refusals.{receiveNumber}
 
 pub record ReceiveOutcome : Type 0 where
@@ -76,7 +76,7 @@ received l octets pool descriptors records =
 
 unfoldable pub receiveAnswer : Link → List ℕ → List ℕ → List ℕ → List ℕ → ReceiveOutcome
 receiveAnswer l octets pool descriptors records =
-    pick (eqb (receiveNumber l octets pool descriptors records) 0) (received l octets pool descriptors records)
+    cond (eqb (receiveNumber l octets pool descriptors records) 0) (received l octets pool descriptors records)
     (record {
       number = receiveNumber l octets pool descriptors records;
       link = l;

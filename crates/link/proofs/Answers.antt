@@ -1,7 +1,7 @@
 -- How a call's answer is met: refused, and done; and what no fault says.
 use Prim.Native.Nat.{ℕ, zero, suc, _+_, _-_, _*_, _≤_, _<_}
 use mathlib.Core.Path.{_≡_, refl, sym, ap, ap₂, _∙_}
-use mathlib.Core.Bool.{Bool, true, false, not, _&&_, _||_}
+use mathlib.Core.Bool.{Bool, true, false, not, _&&_, _||_, cond}
 use mathlib.Core.List.{List, [], _∷_}
 use native.Mathlib.Omega.{arith}
 use lib.Dec.{eqb, leb, ltb}
@@ -14,22 +14,22 @@ use Rattle.board.specs.declared.Link.{Link}
 use Rattle.board.specs.Malformed.{inRange, malformed}
 use Rattle.board.proofs.Ranges.{both, neither}
 use Rattle.link.specs.declared.Answer.{Answer}
-use Rattle.link.specs.Refusals.{pick, fitsMemory, openNumber, commandNumber, readNumber}
+use Rattle.link.specs.Refusals.{fitsMemory, openNumber, commandNumber, readNumber}
 use Rattle.link.specs.Calls.{Outcome, outcome, openedLink, openAnswer, obeyed, commandAnswer, readPart, handAnswer}
 use Rattle.link.proofs.Faults.{none}
 
-pick-true : {A : Type 0} {b : Bool} (x y : A) → b ≡ true → pick b x y ≡ x
-pick-true x y e = rw e
+cond-true : {A : Type 0} {b : Bool} (x y : A) → b ≡ true → cond b x y ≡ x
+cond-true x y e = rw e
 
-pick-false : {A : Type 0} {b : Bool} (x y : A) → b ≡ false → pick b x y ≡ y
-pick-false x y e = rw e
+cond-false : {A : Type 0} {b : Bool} (x y : A) → b ≡ false → cond b x y ≡ y
+cond-false x y e = rw e
 
 -- an answer by its number
-pub done : {A : Type 0} (n : ℕ) (yes-done no-done : A) → n ≡ 0 → pick (eqb n 0) yes-done no-done ≡ yes-done
-done n a b z = pick-true a b (eq-eqb n 0 z)
+pub done : {A : Type 0} (n : ℕ) (yes-done no-done : A) → n ≡ 0 → cond (eqb n 0) yes-done no-done ≡ yes-done
+done n a b z = cond-true a b (eq-eqb n 0 z)
 
-pub refused : {A : Type 0} (n : ℕ) (yes-done no-done : A) → (n ≡ 0 → ⊥) → pick (eqb n 0) yes-done no-done ≡ no-done
-refused n a b z = pick-false a b (ne-eqb n 0 z)
+pub refused : {A : Type 0} (n : ℕ) (yes-done no-done : A) → (n ≡ 0 → ⊥) → cond (eqb n 0) yes-done no-done ≡ no-done
+refused n a b z = cond-false a b (ne-eqb n 0 z)
 
 -- ---- open
 pub record Openable (l : Link) (s : Settings) (pool descriptors : List ℕ) : Type 0 where

@@ -12,7 +12,7 @@ use Rattle.memory.proofs.Slots.{wiped-zeros, pool-length, descriptor-written, d
 use Rattle.board.specs.declared.Settings.{Settings}
 use Rattle.board.specs.declared.Link.{Link}
 use Rattle.board.specs.Malformed.{malformed}
-use Rattle.link.specs.Refusals.{pick, fault, first, fitsMemory, openNumber, commandNumber, readNumber}
+use Rattle.link.specs.Refusals.{fault, first, fitsMemory, openNumber, commandNumber, readNumber}
 use Rattle.link.specs.Calls.{Outcome, outcome, openedLink, openAnswer, wipeAnswer, commandAnswer, readPart, handAnswer}
 use Rattle.link.specs.Promises.{RefusedOpen, RefusedCommand, RefusedRead, RefusedHandBack, WipeLeavesNothing, OpensOnWiped, HandedBackIsEmpty}
 use Rattle.link.proofs.Answers.{done, refused, Openable, openable, Readable, readable}

@@ -1,7 +1,7 @@
 -- What each call answers, and what stands in the lent memory then. "A refusal returns its number, the link as given and zero for
 -- every other number of the answer; a refused read returns an empty part. No lent octet or word changes."
 use Prim.Native.Nat.{ℕ, zero, suc}
-use mathlib.Core.Bool.{Bool, true, false}
+use mathlib.Core.Bool.{Bool, true, false, cond}
 use mathlib.Core.List.{List, []}
 use lib.Dec.{eqb}
 use lib.ListN.{take}
@@ -14,7 +14,7 @@ use Rattle.board.specs.declared.Link.{Link}
 use Rattle.board.specs.Link.{newLink}
 use Rattle.board.specs.With.{withMonitor, withMemory, withCounting}
 use Rattle.link.specs.declared.Answer.{Answer}
-use Rattle.link.specs.Refusals.{pick, openNumber, commandNumber, readNumber}
+use Rattle.link.specs.Refusals.{openNumber, commandNumber, readNumber}
 
 -- the answer of a call that is lent pool and descriptors
 pub record Outcome : Type 0 where
@@ -46,7 +46,7 @@ openedLink s =
 -- "Open marks all slots empty with length 0"
 unfoldable pub openAnswer : Link → Settings → List ℕ → List ℕ → Outcome
 openAnswer l s pool descriptors =
-    pick (eqb (openNumber l s pool descriptors) 0)
+    cond (eqb (openNumber l s pool descriptors) 0)
     (outcome 0 (openedLink s) pool (emptyDescriptors (s .k)))
     (outcome (openNumber l s pool descriptors) l pool descriptors)
 
@@ -72,18 +72,18 @@ obeyed (suc (suc (suc (suc (suc (suc n)))))) l = l
 
 unfoldable pub commandAnswer : Link → ℕ → Answer
 commandAnswer l command =
-    pick (eqb (commandNumber l command) 0)
+    cond (eqb (commandNumber l command) 0)
     (record { number = 0; link = obeyed command l })
     (record { number = commandNumber l command; link = l })
 
 -- "Read returns the first length octets of the slot, as a part of the pool"
 unfoldable pub readPart : Link → List ℕ → List ℕ → ℕ → List ℕ
 readPart l pool descriptors slot =
-    pick (eqb (readNumber l pool descriptors slot) 0) (take (lengthOf descriptors slot) (slotOf pool slot)) []
+    cond (eqb (readNumber l pool descriptors slot) 0) (take (lengthOf descriptors slot) (slotOf pool slot)) []
 
 -- "Hand back zeroes the slot and its length and marks it empty."
 unfoldable pub handAnswer : Link → List ℕ → List ℕ → ℕ → Outcome
 handAnswer l pool descriptors slot =
-    pick (eqb (readNumber l pool descriptors slot) 0)
+    cond (eqb (readNumber l pool descriptors slot) 0)
     (outcome 0 l (withSlot pool slot emptySlot) (withDescriptor descriptors slot 32768 0))
     (outcome (readNumber l pool descriptors slot) l pool descriptors)

@@ -1,6 +1,6 @@
 -- The refusal table: "Checked in rising number, where the call has that fault to find; each is given exactly then, and success is 0."
 use Prim.Native.Nat.{ℕ, _+_, _*_}
-use mathlib.Core.Bool.{Bool, true, false, not, _&&_, _||_}
+use mathlib.Core.Bool.{Bool, true, false, not, _&&_, _||_, cond}
 use mathlib.Core.List.{List, [], _∷_}
 use lib.Dec.{eqb, leb, ltb}
 use lib.ListN.{length}
@@ -8,10 +8,6 @@ use Rattle.memory.specs.Lent.{zeros, statusOf, lengthOf}
 use Rattle.board.specs.declared.Settings.{Settings}
 use Rattle.board.specs.declared.Link.{Link}
 use Rattle.board.specs.Malformed.{inRange, malformed}
-
-abbrev pub pick : {A : Type 0} → Bool → A → A → A
-pick true a b = a
-pick false a b = b
 
 pub record Fault : Type 0 where
   pub found : Bool
@@ -23,7 +19,7 @@ fault b n = record { found = b; number = n }
 -- the number of the first fault that is found, and 0 for none
 unfoldable pub first : List Fault → ℕ
 first [] = 0
-first (f ∷ fs) = pick (f .found) (f .number) (first fs)
+first (f ∷ fs) = cond (f .found) (f .number) (first fs)
 
 -- none of these faults is found
 unfoldable pub noneFound : List Fault → Bool

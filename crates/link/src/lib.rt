@@ -5,8 +5,8 @@ pub mod booking;
 pub mod commands;
 pub mod slots;
 
+ghost use mathlib.Core.Bool.{cond};
 ghost use mathlib.Core.Path.{_≡_};
-ghost use Rattle.link.specs.Refusals.{pick};
 
 // A call's number, 0 or that of its refusal, and the link.
 pub struct Answer {
@@ -16,7 +16,7 @@ pub struct Answer {
 
 // A refusal's number where its fault is found, else what the faults after it give.
 pub fn refuse(found: bool, number: u8, rest: u8) -> u8
-    ensures { λ r. ⌜ r ≡ pick found number rest ⌝ }
+    ensures { λ r. ⌜ r ≡ cond found number rest ⌝ }
 {
     if found { number } else { rest }
 }

@@ -2,7 +2,7 @@
 use Prim.Native.Nat.{ℕ, _+_, _-_}
 use mathlib.Core.Path.{_≡_}
 use mathlib.Core.Logic.{_⊎_}
-use mathlib.Core.Bool.{Bool, true, false}
+use mathlib.Core.Bool.{Bool, true, false, cond}
 use mathlib.Core.List.{List, [], _∷_}
 use lib.Dec.{eqb, leb}
 use Rattle.bits.specs.Octets.{worth}
@@ -29,21 +29,17 @@ stopped m = monitorOf Off (m .count) (m .number)
 abbrev pub gives : Monitor → Alarm → Stepped
 gives m a = record { monitor = m; alarm = a }
 
-abbrev pub pick : Bool → Stepped → Stepped → Stepped
-pick true a b = a
-pick false a b = b
-
 -- "In failure mode each event, good or errored or octet tick: errored adds 1" (c is the count with that added);
 -- "count T raises SUER and the monitor goes idle with both counts kept; otherwise the event number rises, and at every
 -- D-th event, a decay point, it returns to 0 and the count is lowered, not below 0."
 abbrev pub failing : ℕ → ℕ → ℕ → ℕ → Stepped
 failing T D c n =
-    pick (leb T c) (gives (monitorOf Idle c n) Suer)
-    (pick (eqb (n + 1) D) (gives (monitorOf Failure (c - 1) 0) Nothing) (gives (monitorOf Failure c (n + 1)) Nothing))
+    cond (leb T c) (gives (monitorOf Idle c n) Suer)
+    (cond (eqb (n + 1) D) (gives (monitorOf Failure (c - 1) 0) Nothing) (gives (monitorOf Failure c (n + 1)) Nothing))
 
 -- "In alignment mode the event number stays 0, there is no lowering and threshold A raises AERM and idles likewise."
 abbrev pub aligning : ℕ → ℕ → ℕ → Stepped
-aligning A c n = pick (leb A c) (gives (monitorOf Idle c n) Aerm) (gives (monitorOf Alignment c n) Nothing)
+aligning A c n = cond (leb A c) (gives (monitorOf Idle c n) Aerm) (gives (monitorOf Alignment c n) Nothing)
 
 -- a monitor that counts nothing: "Idle and off count nothing."
 abbrev pub OffOrIdle : Monitor → Type 0

@@ -1,7 +1,7 @@
 -- How send and fill meet their answers: what no fault says, room in the output area, and the bits put one after the other.
 use Prim.Native.Nat.{ℕ, _+_, _/_, _^_, _≤_, _<_}
 use mathlib.Core.Path.{_≡_, refl, sym, ap, ap₂, subst, _∙_}
-use mathlib.Core.Bool.{Bool, true, false}
+use mathlib.Core.Bool.{Bool, true, false, cond}
 use mathlib.Core.List.{List, [], _∷_, _++_, append-nil}
 use native.Mathlib.Nat.{zero-add, div-lt-iff-lt-mul}
 use native.Mathlib.Omega.{arith}
@@ -21,7 +21,7 @@ use Rattle.board.specs.declared.Link.{Link}
 use Rattle.board.specs.Malformed.{zeroPast, noOnes}
 use Rattle.board.proofs.Ranges.{neither, InOrder, in-order}
 use Rattle.board.proofs.Past.{part-above}
-use Rattle.link.specs.Refusals.{pick, first}
+use Rattle.link.specs.Refusals.{first}
 use Rattle.link.proofs.Faults.{none}
 use Rattle.link.proofs.Answers.{done, refused}
 use Rattle.output.specs.Refusals.{sendNumber, fillNumber, sharedNumber}
@@ -189,7 +189,7 @@ module _ (l : Link) (output : List ℕ) (n : ℕ) (e : n ≡ fillNumber l output
   unfolding fillAnswer fillOut
   flag-done r out′ link′ z s p q =
       put-done l flag false (l .transmitter .last) 0 output r out′ link′ p q
-      ∙ ap (λ (b : Bool). putOut l (pick b (unitOut (l .transmitter) (fillContent (l .transmitter .last))) flag) b (l .transmitter .last) (fillEvent b) output) (sym s)
+      ∙ ap (λ (b : Bool). putOut l (cond b (unitOut (l .transmitter) (fillContent (l .transmitter .last))) flag) b (l .transmitter .last) (fillEvent b) output) (sym s)
       ∙ sym (done _ _ _ (sym e ∙ z))
 
   pub fill-done : (r : Tx) (out′ : List ℕ) (link′ : Link) → n ≡ 0 → l .transmitter .sent ≡ true
@@ -199,5 +199,5 @@ module _ (l : Link) (output : List ℕ) (n : ℕ) (e : n ≡ fillNumber l output
   unfolding fillAnswer fillOut
   fill-done r out′ link′ z s p q =
       put-done l (unitOut (l .transmitter) (fillContent (l .transmitter .last))) true (l .transmitter .last) 256 output r out′ link′ p q
-      ∙ ap (λ (b : Bool). putOut l (pick b (unitOut (l .transmitter) (fillContent (l .transmitter .last))) flag) b (l .transmitter .last) (fillEvent b) output) (sym s)
+      ∙ ap (λ (b : Bool). putOut l (cond b (unitOut (l .transmitter) (fillContent (l .transmitter .last))) flag) b (l .transmitter .last) (fillEvent b) output) (sym s)
       ∙ sym (done _ _ _ (sym e ∙ z))

@@ -1,6 +1,6 @@
 -- What send and fill put behind the bits that wait, and what they answer.
 use Prim.Native.Nat.{ℕ}
-use mathlib.Core.Bool.{Bool, true, false}
+use mathlib.Core.Bool.{Bool, true, false, cond}
 use mathlib.Core.List.{List, [], _∷_, _++_}
 use lib.Bits.{bitOr}
 use lib.Dec.{eqb}
@@ -12,7 +12,6 @@ use Rattle.sending.specs.Stuffing.{flag, unitLine}
 use Rattle.sending.specs.Packing.{octetsOut, stillWaiting}
 use Rattle.board.specs.declared.Transmitter.{Transmitter}
 use Rattle.board.specs.declared.Link.{Link}
-use Rattle.link.specs.Refusals.{pick}
 use Rattle.output.specs.Refusals.{sendNumber, fillNumber}
 
 pub record OutputOutcome : Type 0 where
@@ -39,7 +38,7 @@ abbrev pub fillContent : List ℕ → List ℕ
 fillContent last = last ++ (0 ∷ [])
 
 unfoldable pub fillOut : Transmitter → List Bool
-fillOut t = pick (t .sent) (unitOut t (fillContent (t .last))) flag
+fillOut t = cond (t .sent) (unitOut t (fillContent (t .last))) flag
 
 -- "8 fill-in sent", "and no event bit is set" for a flag alone
 abbrev pub fillEvent : Bool → ℕ
@@ -79,11 +78,11 @@ notSent n l output = record { number = n; link = l; count = 0; output = output }
 -- "7 sent"
 unfoldable pub sendAnswer : Link → List ℕ → List ℕ → OutputOutcome
 sendAnswer l content output =
-    pick (eqb (sendNumber l content output) 0) (putOut l (unitOut (l .transmitter) content) true (take 2 content) 128 output)
+    cond (eqb (sendNumber l content output) 0) (putOut l (unitOut (l .transmitter) content) true (take 2 content) 128 output)
     (notSent (sendNumber l content output) l output)
 
 unfoldable pub fillAnswer : Link → List ℕ → OutputOutcome
 fillAnswer l output =
-    pick (eqb (fillNumber l output) 0)
+    cond (eqb (fillNumber l output) 0)
     (putOut l (fillOut (l .transmitter)) (l .transmitter .sent) (l .transmitter .last) (fillEvent (l .transmitter .sent)) output)
     (notSent (fillNumber l output) l output)

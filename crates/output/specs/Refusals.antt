@@ -1,12 +1,12 @@
 -- The refusals of send and fill, in rising number.
 use Prim.Native.Nat.{ℕ}
-use mathlib.Core.Bool.{not, _||_}
+use mathlib.Core.Bool.{not, _||_, cond}
 use mathlib.Core.List.{List, [], _∷_}
 use lib.Dec.{ltb}
 use lib.ListN.{length}
 use Rattle.board.specs.declared.Link.{Link}
 use Rattle.board.specs.Malformed.{malformed}
-use Rattle.link.specs.Refusals.{pick, Fault, fault, first}
+use Rattle.link.specs.Refusals.{Fault, fault, first}
 
 -- "9 output area under 336 octets"
 abbrev pub fillFaults : Link → List ℕ → List Fault
@@ -29,4 +29,4 @@ sendNumber l content output = first (sendFaults l content output)
 
 -- the same with the faults that both calls have asked once, before those of the content
 abbrev pub sharedNumber : Link → List ℕ → ℕ → ℕ
-sharedNumber l output rest = pick (malformed l) 1 (pick (not (l .opened)) 2 (pick (ltb (length output) 336) 9 rest))
+sharedNumber l output rest = cond (malformed l) 1 (cond (not (l .opened)) 2 (cond (ltb (length output) 336) 9 rest))

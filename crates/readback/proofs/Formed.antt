@@ -1,7 +1,7 @@
 -- What keeps a link in order: the tests of document 01 from the facts, an area that holds bits, and N's counter at most N.
 use Prim.Native.Nat.{ℕ, zero, suc, _+_, _-_, _*_, _/_, _^_, _≤_, _<_}
 use mathlib.Core.Path.{_≡_, refl, sym, ap, _∙_}
-use mathlib.Core.Bool.{Bool, true, false, not, _&&_, _||_, false≢true}
+use mathlib.Core.Bool.{Bool, true, false, not, _&&_, _||_, false≢true, cond}
 use mathlib.Core.List.{List, [], _∷_}
 use native.Mathlib.Nat.{div-lt-iff-lt-mul}
 use native.Mathlib.Decide.{decLt}
@@ -26,8 +26,8 @@ use Rattle.board.specs.Malformed.{noOnes, zeroPast, inRange, lineOut, counterOu
 use Rattle.board.proofs.Ranges.{when-open, InOrder, in-order}
 use Rattle.board.proofs.Past.{none-above, part-above, past-goes, past-ends}
 use Rattle.units.specs.Indications.{Indication, found, octetEnd}
-use Rattle.units.specs.Units.{UnitMemory, Effect, pickℕ, isFree, goodUnit, erroredUnit, closedUnit, octetEffect, effectOf, nextUnitMemory, unitMemoryAfter}
-use Rattle.units.proofs.UnitStates.{each-fate, each-pick, each-verdict}
+use Rattle.units.specs.Units.{UnitMemory, Effect, isFree, goodUnit, erroredUnit, closedUnit, octetEffect, effectOf, nextUnitMemory, unitMemoryAfter}
+use Rattle.units.proofs.UnitStates.{each-fate, each-cond, each-verdict}
 use Rattle.indications.specs.Writing.{monitorLimits}
 
 -- ---- from facts to tests
@@ -113,7 +113,7 @@ module _ (s : Settings) (o : UnitMemory) where
 
   left-errored : (status kind : ℕ) (os : List ℕ) → Left (left o) (erroredUnit s o status kind os)
   unfolding erroredUnit
-  left-errored status kind os = each-pick (Left (left o)) (isFree o) refl refl
+  left-errored status kind os = each-cond (Left (left o)) (isFree o) refl refl
 
   left-closed : (u : List Bool) → Left (left o) (closedUnit s o u)
   unfolding closedUnit
@@ -122,10 +122,10 @@ module _ (s : Settings) (o : UnitMemory) where
       each-verdict (Left (left o)) (verdictOf basic u) refl (left-errored 2 4 os) (left-errored 1 3 os) (left-good os)
 
   -- it reloads to N, or is one less
-  left-end : left o ≤ s .n → pickℕ (eqb (left o) 1) (s .n) (left o - 1) ≤ s .n
+  left-end : left o ≤ s .n → cond (eqb (left o) 1) (s .n) (left o - 1) ≤ s .n
   left-end h = go (eqb (left o) 1)
     where
-      go : (b : Bool) → pickℕ b (s .n) (left o - 1) ≤ s .n
+      go : (b : Bool) → cond b (s .n) (left o - 1) ≤ s .n
       go true = omega arith
       go false = omega arith
 

@@ -1,7 +1,7 @@
 -- A line that is read with slots handed back between the calls: each call hands over the first of the units still to come.
 use Prim.Native.Nat.{ℕ, _≤_, _<_}
 use mathlib.Core.Path.{_≡_, refl, sym, ap, ap₂, subst, _∙_}
-use mathlib.Core.Bool.{Bool, true, false}
+use mathlib.Core.Bool.{Bool, true, false, cond}
 use mathlib.Core.List.{List, [], _∷_, _++_}
 use native.Mathlib.Omega.{arith}
 use lib.Dec.{eqb}
@@ -27,7 +27,7 @@ use Rattle.units.specs.Units.{UnitMemory, nextUnitMemory, happens, happenings}
 use Rattle.units.proofs.UnitStates.{found-one}
 use Rattle.indications.specs.Writing.{monitorLimits}
 use Rattle.reception.specs.Line.{Board, boardAfter, lineHappenings, lineRecords}
-use Rattle.link.specs.Refusals.{pick, readNumber}
+use Rattle.link.specs.Refusals.{readNumber}
 use Rattle.link.specs.Calls.{Outcome, outcome, openedLink, handAnswer}
 use Rattle.input.specs.Receive.{ReceiveOutcome}
 use Rattle.link.proofs.Kept.{opened}
@@ -107,7 +107,7 @@ unfolding handAnswer
 hand-link h slot = go (eqb (readNumber (h .link) (h .pool) (h .descriptors) slot) 0)
   where
     go : (b : Bool)
-        → pick b (outcome 0 (h .link) (withSlot (h .pool) slot emptySlot) (withDescriptor (h .descriptors) slot 32768 0))
+        → cond b (outcome 0 (h .link) (withSlot (h .pool) slot emptySlot) (withDescriptor (h .descriptors) slot 32768 0))
         (outcome (readNumber (h .link) (h .pool) (h .descriptors) slot) (h .link) (h .pool) (h .descriptors)) .link ≡ h .link
     go true = refl
     go false = refl

@@ -2,7 +2,7 @@
 use Prim.Native.Nat.{ℕ, _+_, _-_, _≤_, _<_}
 use mathlib.Core.Path.{_≡_, refl}
 use mathlib.Core.Logic.{inl, inr}
-use mathlib.Core.Bool.{Bool, true, false}
+use mathlib.Core.Bool.{Bool, true, false, cond}
 use native.Mathlib.Omega.{arith}
 use lib.Dec.{eqb, leb}
 use borrow.Author.Tests.{leb-false, eqb-false}
@@ -13,7 +13,7 @@ use Rattle.monitor.specs.declared.Mode.the-variants.{Off, Failure, Alignment, I
 use Rattle.monitor.specs.declared.Alarm.the-variants.{Nothing, Suer, Aerm}
 use Rattle.monitor.specs.declared.Monitor.{Monitor}
 use Rattle.monitor.specs.declared.Limits.{Limits}
-use Rattle.monitor.specs.Monitor.{monitorOf, gives, pick, failing, aligning, step}
+use Rattle.monitor.specs.Monitor.{monitorOf, gives, failing, aligning, step}
 use Rattle.monitor.proofs.Steps.{step-failing, step-aligning, step-off-or-idle}
 use Rattle.records.specs.Record.{supervised}
 use Rattle.records.specs.Promises.{LimitsInRange, MonitorInRange, StaysInRange, RangeTakes}
@@ -25,7 +25,7 @@ module _ (l : Limits) (r : LimitsInRange l) where
   failing-in c n p q = go (leb (l .t) c) refl (eqb (n + 1) (l .d)) refl
     where
       go : (b : Bool) → leb (l .t) c ≡ b → (d : Bool) → eqb (n + 1) (l .d) ≡ d
-          → MonitorInRange l (pick b (gives (monitorOf Idle c n) Suer) (pick d (gives (monitorOf Failure (c - 1) 0) Nothing) (gives (monitorOf Failure c (n + 1)) Nothing)) .monitor)
+          → MonitorInRange l (cond b (gives (monitorOf Idle c n) Suer) (cond d (gives (monitorOf Failure (c - 1) 0) Nothing) (gives (monitorOf Failure c (n + 1)) Nothing)) .monitor)
       go true u d v = record { number = q; count = omega (arith, r .t-high) }
       go false u true v = record { number = omega (arith, r .d-low); count = omega (arith, leb-false (l .t) c u) }
       go false u false v =
@@ -36,7 +36,7 @@ module _ (l : Limits) (r : LimitsInRange l) where
   aligning-in c n p q = go (leb (l .a) c) refl
     where
       go : (b : Bool) → leb (l .a) c ≡ b
-          → MonitorInRange l (pick b (gives (monitorOf Idle c n) Aerm) (gives (monitorOf Alignment c n) Nothing) .monitor)
+          → MonitorInRange l (cond b (gives (monitorOf Idle c n) Aerm) (gives (monitorOf Alignment c n) Nothing) .monitor)
       go true u = record { number = q; count = omega (arith, r .a-high) }
       go false u = record { number = q; count = leb-false (l .a) c u }
 

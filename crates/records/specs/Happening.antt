@@ -1,7 +1,7 @@
 -- A happening and the monitor. The front end of the receiver gives happenings in order and never looks at the monitor; the monitor, the
 -- event bits and the records follow from the happenings.
 use Prim.Native.Nat.{ℕ}
-use mathlib.Core.Bool.{Bool, true, false}
+use mathlib.Core.Bool.{Bool, true, false, cond}
 use lib.Bits.{bitOr}
 use Rattle.monitor.specs.declared.Alarm.{Alarm}
 use Rattle.monitor.specs.declared.Alarm.the-variants.{Nothing, Suer, Aerm}
@@ -24,15 +24,11 @@ raises Nothing = false
 raises Suer = true
 raises Aerm = true
 
-abbrev pub pick : Bool → Noted → Noted → Noted
-pick true a b = a
-pick false a b = b
-
 abbrev pub notedStep : ℕ → Stepped → Noted
 notedStep own s = record { supervision = record { monitor = s .monitor; events = bitOr own (alarmBit (s .alarm)) }; raised = raises (s .alarm) }
 
 -- "The monitor takes one event, errored or not", if the happening is one; its own event bits and the alarm's are set
 unfoldable pub noted : Limits → Supervision → Happening → Noted
 noted l w h =
-    pick (h .event) (notedStep (bitOr (w .events) (h .bits)) (step l (w .monitor) (h .errored)))
+    cond (h .event) (notedStep (bitOr (w .events) (h .bits)) (step l (w .monitor) (h .errored)))
     (record { supervision = record { monitor = w .monitor; events = bitOr (w .events) (h .bits) }; raised = false })

@@ -1,7 +1,7 @@
 -- One accepted send or fill: its bits go behind those that waited, whole octets go out, and the rest waits.
 use Prim.Native.Nat.{ℕ, _+_, _≤_}
 use mathlib.Core.Path.{_≡_, refl, sym, ap, ap₂, subst, _∙_}
-use mathlib.Core.Bool.{Bool, true, false}
+use mathlib.Core.Bool.{Bool, true, false, cond}
 use mathlib.Core.List.{List, [], _∷_, _++_, append-assoc}
 use native.Mathlib.Nat.{zero-add}
 use native.Mathlib.Omega.{arith}
@@ -19,7 +19,6 @@ use Rattle.sending.proofs.Stuffs.{few-octets}
 use Rattle.board.specs.declared.Link.{Link}
 use Rattle.board.specs.Promises.{Sized}
 use Rattle.board.proofs.Ranges.{InOrder}
-use Rattle.link.specs.Refusals.{pick}
 use Rattle.link.proofs.Answers.{done}
 use Rattle.output.specs.Refusals.{sendNumber, fillNumber}
 use Rattle.output.specs.Output.{OutputOutcome, sender, firstFlag, unitOut, fillContent, fillOut, fillEvent, putOut, notSent, sendAnswer, fillAnswer}
@@ -92,7 +91,7 @@ few-fill : (l : Link) → InOrder l → length (l .transmitter .last) ≡ 2 → 
 unfolding fillOut
 few-fill l o h = go (l .transmitter .sent)
   where
-    go : (b : Bool) → length (octetsOut (sender (l .transmitter)) (pick b (unitOut (l .transmitter) (fillContent (l .transmitter .last))) flag)) ≤ 335
+    go : (b : Bool) → length (octetsOut (sender (l .transmitter)) (cond b (unitOut (l .transmitter) (fillContent (l .transmitter .last))) flag)) ≤ 335
     go true = few-unit l (fillContent (l .transmitter .last)) o (omega (arith, length-append (l .transmitter .last) (0 ∷ [])))
     go false = few-flag l o
 

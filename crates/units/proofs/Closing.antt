@@ -1,7 +1,7 @@
 -- A closed unit by its verdict, over plain values.
 use Prim.Native.Nat.{ℕ, _+_, _/_, _≤_}
 use mathlib.Core.Path.{_≡_, refl, sym, ap, subst, _∙_}
-use mathlib.Core.Bool.{Bool, true, false}
+use mathlib.Core.Bool.{Bool, true, false, cond}
 use mathlib.Core.List.{List, [], _∷_}
 use native.Mathlib.Omega.{arith}
 use borrow.Author.Tests.{ltb-false}
@@ -15,7 +15,7 @@ use Rattle.bits.proofs.Packing.{length-packed, packed-octets}
 use Rattle.bits.proofs.Whole.{whole-front}
 use Rattle.framing.specs.declared.Verdict.{Verdict}
 use Rattle.framing.specs.declared.Verdict.the-variants.{Short, NotWhole, CheckWrong, Good}
-use Rattle.framing.specs.Verdict.{verdictOf, pick}
+use Rattle.framing.specs.Verdict.{verdictOf}
 use Rattle.board.specs.declared.Settings.{Settings}
 use Rattle.units.specs.declared.Taken.{Taken}
 use Rattle.units.specs.Units.{UnitMemory, unitMemory, effect, shortTaken, goodUnit, erroredUnit, closedUnit}
@@ -25,7 +25,7 @@ good-forty : (u : List Bool) → verdictOf basic u ≡ Good → 40 ≤ length u
 unfolding verdictOf
 good-forty u v = go (ltb (length u) 40) refl _ v
   where
-    go : (b : Bool) → ltb (length u) 40 ≡ b → (other : Verdict) → pick b Short other ≡ Good → 40 ≤ length u
+    go : (b : Bool) → ltb (length u) 40 ≡ b → (other : Verdict) → cond b Short other ≡ Good → 40 ≤ length u
     go true p other w = let z : _≡_ {A = ℕ} 0 1 = cc in absurd (omega arith)
     go false p other w = ltb-false (length u) 40 p
 

@@ -1,7 +1,7 @@
 -- The laws of the unit state that specs/Promises.antt states: each holds of every way that an indication can go.
 use Prim.Native.Nat.{ℕ, _+_, _-_, _*_, _≤_}
 use mathlib.Core.Path.{_≡_, refl, _∙_}
-use mathlib.Core.Bool.{Bool, true, false}
+use mathlib.Core.Bool.{Bool, true, false, cond}
 use mathlib.Core.List.{List, [], _∷_}
 use native.Mathlib.Omega.{arith}
 use borrow.Author.Tests.{eqb-false}
@@ -28,7 +28,7 @@ use Rattle.records.specs.declared.Happening.{Happening}
 use Rattle.records.specs.Promises.{FirstFive, none}
 use Rattle.records.specs.Promises.{more as five-more}
 use Rattle.units.specs.Indications.{found, octetEnd}
-use Rattle.units.specs.Units.{UnitMemory, Effect, unitMemory, effect, unitStateOf, firstFive, begins, unitOf, isFree, goodCounts, overCounts, droppedCounts, lostCounts, shortTaken, handOver, byFate, byVerdict, pick, pickℕ, ticks, tickOf, goodUnit, erroredUnit, closedUnit, octetEffect, effectOf, unitMemoryAfter, happenings, nextUnitMemory, happens}
+use Rattle.units.specs.Units.{UnitMemory, Effect, unitMemory, effect, unitStateOf, firstFive, begins, unitOf, isFree, goodCounts, overCounts, droppedCounts, lostCounts, shortTaken, handOver, byFate, byVerdict, ticks, tickOf, goodUnit, erroredUnit, closedUnit, octetEffect, effectOf, unitMemoryAfter, happenings, nextUnitMemory, happens}
 use Rattle.units.specs.Fit.{Fits}
 use Rattle.units.specs.Promises.{FitKept, OneFound, OneAtMost, FirstFives, Sums, SumKept, SumAfter, UnitMemoryAppend, HappeningsAppend}
 use Rattle.units.proofs.FirstFive.{five-length}
@@ -39,9 +39,9 @@ each-fate P HandedOver x y z = x
 each-fate P Dropped x y z = y
 each-fate P Lost x y z = z
 
-pub each-pick : (P : Effect → Type 0) (t : Bool) {a b : Effect} → P a → P b → P (pick t a b)
-each-pick P true x y = x
-each-pick P false x y = y
+pub each-cond : (P : Effect → Type 0) (t : Bool) {a b : Effect} → P a → P b → P (cond t a b)
+each-cond P true x y = x
+each-cond P false x y = y
 
 pub each-verdict : (P : Effect → Type 0) (v : Verdict) {a b c d : Effect} → P a → P b → P c → P d → P (byVerdict v a b c d)
 each-verdict P Short x y z w = x
@@ -68,7 +68,7 @@ module _ (P : Effect → Type 0) (s : Settings) (o : UnitMemory) (os : List ℕ)
       → P (stayed o (begins (s .orn) (o .units .counting)) (o .units .memory) (o .units .counts) (unitOf kind true os (o .units .counts .good) true 2))
       → P (erroredUnit s o status kind os)
   unfolding erroredUnit
-  each-errored status kind over lost = each-pick P (isFree o) over lost
+  each-errored status kind over lost = each-cond P (isFree o) over lost
 
   abbrev off : Counting
   off = record { on = false; left = o .units .counting .left }
@@ -127,10 +127,10 @@ module _ (s : Settings) (o : UnitMemory) (f : Fits s (o .units) (o .pool) (o .de
       each-closed (Fit s) s o u f (λ status kind. fit-errored status kind (wholeOctets u) w) (fit-good (wholeOctets u) w)
 
 -- N's counter stays above zero
-runs : (n left : ℕ) → 1 ≤ n → 1 ≤ left → 1 ≤ pickℕ (eqb left 1) n (left - 1)
+runs : (n left : ℕ) → 1 ≤ n → 1 ≤ left → 1 ≤ cond (eqb left 1) n (left - 1)
 runs n left h l = go (eqb left 1) refl
   where
-    go : (b : Bool) → eqb left 1 ≡ b → 1 ≤ pickℕ b n (left - 1)
+    go : (b : Bool) → eqb left 1 ≡ b → 1 ≤ cond b n (left - 1)
     go true e = h
     go false e = let x = eqb-false left 1 e in omega arith
 
@@ -140,7 +140,7 @@ fit-kept s o (found (closed u)) h f = fit-closed s o f u (omega (arith, length-w
 fit-kept s o (found abort) h f = stays s o f (begins (s .itu) (o .units .counting)) (o .units .memory) (o .units .counts) (f .counter)
 fit-kept s o (found long) h f = stays s o f (begins (s .itu) (o .units .counting)) (o .units .memory) (o .units .counts) (f .counter)
 fit-kept s o octetEnd h f =
-    stays s o f (record { on = o .units .counting .on; left = pickℕ (eqb (o .units .counting .left) 1) (s .n) (o .units .counting .left - 1) })
+    stays s o f (record { on = o .units .counting .on; left = cond (eqb (o .units .counting .left) 1) (s .n) (o .units .counting .left - 1) })
     (o .units .memory) (o .units .counts) (runs (s .n) (o .units .counting .left) (f .reload) (f .counter))
 
 -- ---- a finding is one happening, with five octets

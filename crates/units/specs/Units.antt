@@ -1,6 +1,6 @@
 -- "What happens to a closed unit, in order", and octet counting: the front end, which gives happenings and never looks at the monitor.
 use Prim.Native.Nat.{ℕ, _+_, _-_, _%_, _^_}
-use mathlib.Core.Bool.{Bool, true, false, _||_}
+use mathlib.Core.Bool.{Bool, true, false, _||_, cond}
 use mathlib.Core.List.{List, [], _∷_, _++_}
 use lib.Dec.{eqb}
 use lib.ListN.{length, take}
@@ -110,14 +110,10 @@ goodUnit s o octets =
     (effect (unitMemory (unitStateOf (begins (s .orn) off) (st .memory) (d .slots .next) (lostCounts counts)) (o .pool) (o .descriptors)) (unitOf 2 true octets (counts .good) false 2 ∷ []))
 
 -- ---- a unit with an error, of this status and kind: it goes to the next slot too, or is lost
-abbrev pub pick : Bool → Effect → Effect → Effect
-pick true a b = a
-pick false a b = b
-
 unfoldable pub erroredUnit : Settings → UnitMemory → ℕ → ℕ → List ℕ → Effect
 erroredUnit s o status kind octets =
     let d = o .units in
-    pick (isFree o) (effect (handOver (s .k) status octets o d) (unitOf kind false octets (d .counts .good) true 1 ∷ []))
+    cond (isFree o) (effect (handOver (s .k) status octets o d) (unitOf kind false octets (d .counts .good) true 1 ∷ []))
     (effect (unitMemory (unitStateOf (begins (s .orn) (d .counting)) (d .memory) (d .slots .next) (d .counts)) (o .pool) (o .descriptors))
     (unitOf kind true octets (d .counts .good) true 2 ∷ []))
 
@@ -153,10 +149,6 @@ findingEffect s o long = broken s o 6 64
 abbrev pub tickOf : ℕ → Happening
 tickOf good = record { kind = 8; lost = false; length = 0; first = 0 ∷ 0 ∷ 0 ∷ 0 ∷ 0 ∷ []; good = good; event = true; errored = true; bits = 16 }
 
-abbrev pub pickℕ : Bool → ℕ → ℕ → ℕ
-pickℕ true a b = a
-pickℕ false a b = b
-
 abbrev pub ticks : Bool → Bool → Happening → List Happening
 ticks true true h = h ∷ []
 ticks true false h = []
@@ -168,7 +160,7 @@ octetEffect s o =
     let d = o .units in
     let due = eqb (d .counting .left) 1 in
     effect
-    (unitMemory (unitStateOf (record { on = d .counting .on; left = pickℕ due (s .n) (d .counting .left - 1) }) (d .memory) (d .slots .next) (d .counts)) (o .pool) (o .descriptors))
+    (unitMemory (unitStateOf (record { on = d .counting .on; left = cond due (s .n) (d .counting .left - 1) }) (d .memory) (d .slots .next) (d .counts)) (o .pool) (o .descriptors))
     (ticks due (d .counting .on) (tickOf (d .counts .good)))
 
 unfoldable pub effectOf : Settings → UnitMemory → Indication → Effect

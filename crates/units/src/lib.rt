@@ -8,14 +8,14 @@ use filter::Memory;
 use framing::Verdict;
 use records::Happening;
 ghost use mathlib.Core.Path.{_≡_};
-ghost use mathlib.Core.Bool.{true, false};
+ghost use mathlib.Core.Bool.{true, false, cond};
 ghost use mathlib.Core.List.{List, [], _∷_};
 ghost use Prim.Native.Nat.{ℕ, _+_, _-_, _≤_, _<_};
 ghost use lib.Dec.{eqb};
 ghost use lib.ListN.{length, take, getD};
 ghost use Rattle.bits.specs.Octets.{lineBits, packed};
 ghost use Rattle.memory.specs.Lent.{statusOf};
-ghost use Rattle.units.specs.Units.{unitMemory, effect, unitStateOf, firstFive, goodCounts, overCounts, droppedCounts, lostCounts, goodUnit, erroredUnit, shortTaken, closedUnit, broken, tickOf, pickℕ};
+ghost use Rattle.units.specs.Units.{unitMemory, effect, unitStateOf, firstFive, goodCounts, overCounts, droppedCounts, lostCounts, goodUnit, erroredUnit, shortTaken, closedUnit, broken, tickOf};
 ghost use Rattle.units.specs.Fit.{Fits};
 
 // The parts of the link that deal with units: octet counting, the filter's memory, the next slot, the counts.
@@ -310,7 +310,7 @@ pub fn break_off(s: Settings, units: UnitState, kind: u8, bits: u16) -> Taken
 // N's counter after an octet: it runs down, and at zero it reloads.
 pub fn count_down(n: u16, left: u16) -> u16
     requires { ⌜ 1 ≤ left ⌝ }
-    ensures { λ r. ⌜ r ≡ pickℕ (eqb left 1) n (left - 1) ⌝ }
+    ensures { λ r. ⌜ r ≡ cond (eqb left 1) n (left - 1) ⌝ }
 {
     if left == 1 {
         return n;
