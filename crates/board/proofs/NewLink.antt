@@ -62,15 +62,15 @@ only-new l z o e =
     let n : (i : ℕ) → getD (numbers l) i 0 ≡ 0 = zero-at (numbers l) (p1 .0) in
     let mask : l .settings .mask ≡ replicate 5 0 = all-zero 5 _ (z .mask) (a1 .0) in
     let area : l .line .area ≡ replicate 279 0 = all-zero 279 _ (z .area) (a1 .1) in
-    let held : l .memory .octets ≡ replicate 5 0 = all-zero 5 _ (z .held) (a2 .1) in
+    let held : l .units .memory .octets ≡ replicate 5 0 = all-zero 5 _ (z .held) (a2 .1) in
     let last : l .transmitter .last ≡ replicate 2 0 = all-zero 2 _ (z .last) (a3 .1) in
     let run : l .line .state .run ≡ 7 = eqb-true _ _ (p2 .1) in
-    let mode : l .monitor .mode ≡ Off = is-off _ (p4 .1) in
+    let mode : l .supervision .monitor .mode ≡ Off = is-off _ (p4 .1) in
     let filter : l .settings .filter ≡ false = not-true _ (p5 .1) in
     let itu : l .settings .itu ≡ false = not-true _ (p6 .1) in
     let orn : l .settings .orn ≡ false = not-true _ (p7 .1) in
-    let on : l .counting .on ≡ false = not-true _ (p8 .1) in
-    let alike : l .memory .alike ≡ false = not-true _ (p9 .1) in
+    let on : l .units .counting .on ≡ false = not-true _ (p8 .1) in
+    let alike : l .units .memory .alike ≡ false = not-true _ (p9 .1) in
     let flagged : l .transmitter .flagged ≡ false = not-true _ (p10 .1) in
     let sent : l .transmitter .sent ≡ false = not-true _ (p11 .1) in
     λ i.
@@ -78,12 +78,14 @@ only-new l z o e =
       opened = o i;
       settings = record { k = n 0 i; m = n 1 i; n = n 2 i; t = n 3 i; d = n 4 i; a = n 5 i; mask = mask i; filter = filter i; itu = itu i; orn = orn i };
       line = record { state = record { run = run i; hunting = p3 .1 i; bits = n 6 i }; area = area i };
-      counting = record { on = on i; left = n 7 i };
-      monitor = record { mode = mode i; count = n 8 i; number = n 9 i };
-      memory = record { length = n 10 i; octets = held i; alike = alike i };
-      slots = record { next = n 11 i };
-      counts = record { good = n 12 i; over = n 13 i; dropped = n 14 i; lost = n 15 i };
-      events = n 16 i;
+      units =
+          record {
+            counting = record { on = on i; left = n 7 i };
+            memory = record { length = n 10 i; octets = held i; alike = alike i };
+            slots = record { next = n 11 i };
+            counts = record { good = n 12 i; over = n 13 i; dropped = n 14 i; lost = n 15 i };
+          };
+      supervision = record { monitor = record { mode = mode i; count = n 8 i; number = n 9 i }; events = n 16 i };
       transmitter = record { flagged = flagged i; count = n 17 i; wait = n 18 i; sent = sent i; last = last i };
     }
 

@@ -68,10 +68,10 @@ pub record InOrder (l : Link) : Type 0 where
   pub run : l .line .state .run ≤ 7
   pub bits : l .line .state .bits ≤ 8 * l .settings .m + 7
   pub idle : l .line .state .hunting ≡ true → l .line .state .bits ≡ 0
-  pub counter : (1 ≤ l .counting .left) × (l .counting .left ≤ l .settings .n)
-  pub number : l .monitor .number < l .settings .d
-  pub count : countOut (l .monitor .mode) (l .settings) (l .monitor .count) ≡ false
-  pub next : l .slots .next < l .settings .k
+  pub counter : (1 ≤ l .units .counting .left) × (l .units .counting .left ≤ l .settings .n)
+  pub number : l .supervision .monitor .number < l .settings .d
+  pub count : countOut (l .supervision .monitor .mode) (l .settings) (l .supervision .monitor .count) ≡ false
+  pub next : l .units .slots .next < l .settings .k
   pub waiting : l .transmitter .count ≤ 7
   pub unflagged : l .transmitter .flagged ≡ false → l .transmitter .count ≡ 0
   pub wait : zeroPast (l .transmitter .count) (l .transmitter .wait ∷ []) ≡ true
@@ -102,10 +102,10 @@ in-order l o e =
       run = ltb-false 7 (l .line .state .run) (low .0);
       bits = ltb-false (8 * l .settings .m + 7) (l .line .state .bits) (low .1);
       idle = none-while (l .line .state .hunting) (l .line .state .bits) (line .1);
-      counter = (ltb-false (l .counting .left) 1 (counter .0), ltb-false (l .settings .n) (l .counting .left) (counter .1));
-      number = leb-false (l .settings .d) (l .monitor .number) (mon .0);
+      counter = (ltb-false (l .units .counting .left) 1 (counter .0), ltb-false (l .settings .n) (l .units .counting .left) (counter .1));
+      number = leb-false (l .settings .d) (l .supervision .monitor .number) (mon .0);
       count = mon .1;
-      next = leb-false (l .settings .k) (l .slots .next) (f5 .1);
+      next = leb-false (l .settings .k) (l .units .slots .next) (f5 .1);
       waiting = ltb-false 7 (l .transmitter .count) (few .0);
       unflagged = λ q. none-while (not (l .transmitter .flagged)) (l .transmitter .count) (few .1) (ap not q);
       wait = not-false _ (send .1);

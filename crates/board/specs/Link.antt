@@ -9,6 +9,8 @@ use Rattle.filter.specs.Memory.{emptyMemory}
 use Rattle.framing.specs.Representation.{lineOf}
 use Rattle.board.specs.declared.Settings.{Settings}
 use Rattle.board.specs.declared.Gathering.{Gathering}
+use Rattle.board.specs.declared.UnitState.{UnitState}
+use Rattle.board.specs.declared.Supervision.{Supervision}
 use Rattle.board.specs.declared.Transmitter.{Transmitter}
 use Rattle.board.specs.declared.Link.{Link}
 
@@ -23,6 +25,18 @@ clearArea = replicate 279 0
 abbrev pub newLine : Gathering
 newLine = record { state = lineOf 7 true 0; area = clearArea }
 
+abbrev pub newUnits : UnitState
+newUnits =
+    record {
+      counting = record { on = false; left = 0 };
+      memory = emptyMemory;
+      slots = record { next = 0 };
+      counts = record { good = 0; over = 0; dropped = 0; lost = 0 };
+    }
+
+abbrev pub newSupervision : Supervision
+newSupervision = record { monitor = started Off; events = 0 }
+
 abbrev pub newTransmitter : Transmitter
 newTransmitter = record { flagged = false; count = 0; wait = 0; sent = false; last = 0 ∷ 0 ∷ [] }
 
@@ -32,11 +46,7 @@ newLink =
       opened = false;
       settings = newSettings;
       line = newLine;
-      counting = record { on = false; left = 0 };
-      monitor = started Off;
-      memory = emptyMemory;
-      slots = record { next = 0 };
-      counts = record { good = 0; over = 0; dropped = 0; lost = 0 };
-      events = 0;
+      units = newUnits;
+      supervision = newSupervision;
       transmitter = newTransmitter;
     }

@@ -58,7 +58,7 @@ transmitterOut t = (ltb 7 (t .count) || (not (t .flagged) && ltb 0 (t .count))) 
 unfoldable pub openMalformed : Link → Bool
 openMalformed l =
     (((((not (zeroPast (l .line .state .bits) (l .line .area)) || not (inRange (l .settings))) || lineOut (l .settings .m) (l .line .state))
-    || counterOut (l .settings .n) (l .counting)) || monitorOut (l .settings) (l .monitor)) || leb (l .settings .k) (l .slots .next))
+    || counterOut (l .settings .n) (l .units .counting)) || monitorOut (l .settings) (l .supervision .monitor)) || leb (l .settings .k) (l .units .slots .next))
     || transmitterOut (l .transmitter)
 
 abbrev pub isOff : Mode → Bool
@@ -71,17 +71,17 @@ isOff Idle = false
 abbrev pub numbers : Link → List ℕ
 numbers l =
     l .settings .k ∷ l .settings .m ∷ l .settings .n ∷ l .settings .t ∷ l .settings .d ∷ l .settings .a ∷ l .line .state .bits
-    ∷ l .counting .left ∷ l .monitor .count ∷ l .monitor .number ∷ l .memory .length ∷ l .slots .next ∷ l .counts .good ∷ l .counts .over
-    ∷ l .counts .dropped ∷ l .counts .lost ∷ l .events ∷ l .transmitter .count ∷ l .transmitter .wait ∷ []
+    ∷ l .units .counting .left ∷ l .supervision .monitor .count ∷ l .supervision .monitor .number ∷ l .units .memory .length ∷ l .units .slots .next ∷ l .units .counts .good ∷ l .units .counts .over
+    ∷ l .units .counts .dropped ∷ l .units .counts .lost ∷ l .supervision .events ∷ l .transmitter .count ∷ l .transmitter .wait ∷ []
 
 abbrev pub arraysZero : Link → Bool
-arraysZero l = ((zeros (l .settings .mask) && zeros (l .line .area)) && zeros (l .memory .octets)) && zeros (l .transmitter .last)
+arraysZero l = ((zeros (l .settings .mask) && zeros (l .line .area)) && zeros (l .units .memory .octets)) && zeros (l .transmitter .last)
 
 -- the test that a closed link is the new link (proofs/NewLink.antt: it holds of no other)
 unfoldable pub isNew : Link → Bool
 isNew l =
-    ((((((((((zeros (numbers l) && arraysZero l) && eqb (l .line .state .run) 7) && l .line .state .hunting) && isOff (l .monitor .mode))
-    && not (l .settings .filter)) && not (l .settings .itu)) && not (l .settings .orn)) && not (l .counting .on)) && not (l .memory .alike))
+    ((((((((((zeros (numbers l) && arraysZero l) && eqb (l .line .state .run) 7) && l .line .state .hunting) && isOff (l .supervision .monitor .mode))
+    && not (l .settings .filter)) && not (l .settings .itu)) && not (l .settings .orn)) && not (l .units .counting .on)) && not (l .units .memory .alike))
     && not (l .transmitter .flagged)) && not (l .transmitter .sent)
 
 -- "A closed link is malformed exactly if it isn't that new link; an open one if [..]"

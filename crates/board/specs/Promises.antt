@@ -12,7 +12,7 @@ use Rattle.board.specs.Malformed.{malformed}
 pub record Sized (l : Link) : Type 0 where
   pub mask : length (l .settings .mask) ≡ 5
   pub area : length (l .line .area) ≡ 279
-  pub held : length (l .memory .octets) ≡ 5
+  pub held : length (l .units .memory .octets) ≡ 5
   pub last : length (l .transmitter .last) ≡ 2
 
 -- A closed link is malformed exactly if it isn't the new link.

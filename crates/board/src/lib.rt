@@ -7,7 +7,7 @@ pub mod rows;
 pub mod wellformed;
 
 ghost use mathlib.Core.Path.{_≡_};
-ghost use Rattle.board.specs.Link.{newLink, newLine, clearArea, newSettings, newTransmitter};
+ghost use Rattle.board.specs.Link.{newLink, newLine, clearArea, newSettings, newUnits, newSupervision, newTransmitter};
 
 // What a booking says: K slots, the longest unit M, N, T, D and A, the mask, and the three switches.
 #[repr(C)]
@@ -63,16 +63,27 @@ pub struct Transmitter {
     pub last: [u8; 2],
 }
 
+// What deals with units: octet counting, the filter's memory, the next slot, the counts.
+#[repr(C)]
+pub struct UnitState {
+    pub counting: Counting,
+    pub memory: Memory,
+    pub slots: Slots,
+    pub counts: Counts,
+}
+
+// The monitor and the event bits.
+pub struct Supervision {
+    pub monitor: Monitor,
+    pub events: u16,
+}
+
 pub struct Link {
     pub opened: bool,
     pub settings: Settings,
     pub line: Gathering,
-    pub counting: Counting,
-    pub monitor: Monitor,
-    pub memory: Memory,
-    pub slots: Slots,
-    pub counts: Counts,
-    pub events: u16,
+    pub units: UnitState,
+    pub supervision: Supervision,
     pub transmitter: Transmitter,
 }
 
@@ -132,24 +143,15 @@ impl Link {
     {
         let settings = no_settings();
         let line = new_line();
-        let monitor = Monitor::off();
-        let memory = Memory::empty();
+        let units = new_units();
+        let supervision = new_supervision();
         let transmitter = new_transmitter();
         Self {
             opened: false,
             settings: settings,
             line: line,
-            counting: Counting { on: false, left: 0 },
-            monitor: monitor,
-            memory: memory,
-            slots: Slots { next: 0 },
-            counts: Counts {
-                good: 0,
-                over: 0,
-                dropped: 0,
-                lost: 0,
-            },
-            events: 0,
+            units: units,
+            supervision: supervision,
             transmitter: transmitter,
         }
     }
@@ -174,6 +176,35 @@ fn new_line() -> Gathering
             bits: 0,
         },
         area: area,
+    }
+}
+
+// No octet counting, nothing remembered, all counts zero.
+fn new_units() -> UnitState
+    ensures { λ r. ⌜ r ≡ newUnits ⌝ }
+{
+    let memory = Memory::empty();
+    UnitState {
+        counting: Counting { on: false, left: 0 },
+        memory: memory,
+        slots: Slots { next: 0 },
+        counts: Counts {
+            good: 0,
+            over: 0,
+            dropped: 0,
+            lost: 0,
+        },
+    }
+}
+
+// The monitor off, no event bit set.
+fn new_supervision() -> Supervision
+    ensures { λ r. ⌜ r ≡ newSupervision ⌝ }
+{
+    let monitor = Monitor::off();
+    Supervision {
+        monitor: monitor,
+        events: 0,
     }
 }
 

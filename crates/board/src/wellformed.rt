@@ -122,10 +122,10 @@ fn open_malformed(link: Link) -> bool
     let clean = zero_past(&area, state.bits);
     let settings = in_range(s);
     let line = line_out(s.m, state);
-    let counter = counter_out(s.n, link.counting);
-    let counts = monitor_out(s, link.monitor);
+    let counter = counter_out(s.n, link.units.counting);
+    let counts = monitor_out(s, link.supervision.monitor);
     let sender = transmitter_out(link.transmitter);
-    !clean | !settings | line | counter | counts | (s.k <= link.slots.next) | sender
+    !clean | !settings | line | counter | counts | (s.k <= link.units.slots.next) | sender
 }
 
 // Whether the mode is off.
@@ -152,7 +152,7 @@ fn numbers_zero(link: Link) -> bool
     ensures { λ r. ⌜ r ≡ zeros (numbers link) ⌝ }
 {
     let s = link.settings;
-    let counts = link.counts;
+    let counts = link.units.counts;
     let count = wide(link.transmitter.count);
     let wait = wide(link.transmitter.wait);
     let words = [
@@ -163,16 +163,16 @@ fn numbers_zero(link: Link) -> bool
         s.d,
         s.a,
         link.line.state.bits,
-        link.counting.left,
-        link.monitor.count,
-        link.monitor.number,
-        link.memory.length,
-        link.slots.next,
+        link.units.counting.left,
+        link.supervision.monitor.count,
+        link.supervision.monitor.number,
+        link.units.memory.length,
+        link.units.slots.next,
         counts.good,
         counts.over,
         counts.dropped,
         counts.lost,
-        link.events,
+        link.supervision.events,
         count,
         wait,
     ];
@@ -197,11 +197,11 @@ fn is_new(link: Link) -> bool
     let s = link.settings;
     let state = link.line.state;
     let t = link.transmitter;
-    let m = link.monitor;
+    let m = link.supervision.monitor;
     let mode = m.mode;
     let mask = s.mask;
     let area = link.line.area;
-    let held = link.memory.octets;
+    let held = link.units.memory.octets;
     let last = t.last;
     let numbers = numbers_zero(link);
     let arrays = arrays_zero(mask, area, held, last);
@@ -214,8 +214,8 @@ fn is_new(link: Link) -> bool
         & !s.filter
         & !s.itu
         & !s.orn
-        & !link.counting.on
-        & !link.memory.alike
+        & !link.units.counting.on
+        & !link.units.memory.alike
         & !t.flagged
         & !t.sent
 }

@@ -7,7 +7,7 @@ use lib.Dec.{eqb}
 use borrow.Author.Tests.{eq-eqb, ne-eqb}
 use Rattle.records.specs.declared.Happening.{Happening}
 use Rattle.board.specs.declared.Settings.{Settings}
-use Rattle.units.specs.declared.UnitState.{UnitState}
+use Rattle.board.specs.declared.UnitState.{UnitState}
 use Rattle.units.specs.declared.Taken.{Taken}
 use Rattle.units.specs.Indications.{octetEnd}
 use Rattle.units.specs.Units.{UnitMemory, unitMemory, Effect, effect, unitStateOf, ticks, tickOf, octetEffect, effectOf}

@@ -10,7 +10,7 @@ use Rattle.framing.specs.declared.Found.{Found}
 use Rattle.framing.specs.declared.Found.the-variants.{Nothing, Closed, Abort, Long}
 use Rattle.framing.specs.Delimitation.{Finding, closed, abort, long}
 use Rattle.framing.specs.Representation.{shows, unitIn}
-use Rattle.records.specs.declared.Supervision.{Supervision}
+use Rattle.board.specs.declared.Supervision.{Supervision}
 use Rattle.board.specs.declared.Settings.{Settings}
 use Rattle.units.specs.declared.Taken.{Taken}
 use Rattle.units.specs.Indications.{Indication, found}

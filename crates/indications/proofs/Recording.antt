@@ -8,7 +8,7 @@ use native.Mathlib.Omega.{arith}
 use lib.ListN.{length, length-append}
 use lib.Seq.{sets, length-sets}
 use Rattle.records.specs.declared.Happening.{Happening}
-use Rattle.records.specs.declared.Supervision.{Supervision}
+use Rattle.board.specs.declared.Supervision.{Supervision}
 use Rattle.records.specs.declared.Noted.{Noted}
 use Rattle.records.specs.Happening.{noted}
 use Rattle.records.specs.Record.{recordOf, supervised, recorded, supervisionAfter, recordsOf}
@@ -17,7 +17,7 @@ use Rattle.records.proofs.Supervising.{supervision-append, records-append, reco
 use Rattle.records.proofs.Range.{stays-in-range}
 use Rattle.bits.proofs.Writing.{sets-append}
 use Rattle.board.specs.declared.Settings.{Settings}
-use Rattle.units.specs.declared.UnitState.{UnitState}
+use Rattle.board.specs.declared.UnitState.{UnitState}
 use Rattle.units.specs.declared.Taken.{Taken}
 use Rattle.units.specs.Indications.{Indication}
 use Rattle.units.proofs.UnitStates.{unit-memory-append, happenings-append}

@@ -5,7 +5,7 @@ use mathlib.Core.List.{List, []}
 use lib.ListN.{length, take}
 use lib.Seq.{sets}
 use Rattle.monitor.specs.declared.Limits.{Limits}
-use Rattle.records.specs.declared.Supervision.{Supervision}
+use Rattle.board.specs.declared.Supervision.{Supervision}
 use Rattle.records.specs.Promises.{LimitsInRange, MonitorInRange}
 use Rattle.records.specs.Record.{supervised, recorded, supervisionAfter, recordsOf}
 use Rattle.framing.specs.Delimitation.{Finding}

@@ -1,11 +1,11 @@
 // One indication of the line, a finding or an octet's end: to the unit state, the monitor and the records.
 use board::Counting;
 use board::Settings;
+use board::Supervision;
+use board::UnitState;
 use framing::Found;
 use monitor::Limits;
-use records::Supervision;
 use units::Taken;
-use units::UnitState;
 ghost use mathlib.Core.Path.{_≡_};
 ghost use mathlib.Core.List.{List, [], _∷_, map};
 ghost use Prim.Native.Nat.{ℕ, _+_, _*_, _≤_};

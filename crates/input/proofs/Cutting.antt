@@ -22,7 +22,10 @@ use Rattle.reception.specs.Line.{Board, boardAfter, lineHappenings, lineRecords
 use Rattle.reception.proofs.Cutting.{board-cut, records-cut, sixteen-each, three-each, sum-over-line}
 use Rattle.link.specs.Refusals.{rising, openNumber, commandNumber}
 use Rattle.input.specs.Refusals.{receiveFaults, receiveNumber}
-use Rattle.link.specs.Calls.{Outcome, openedLink, openAnswer, obeyed, commandAnswer}
+use Rattle.link.specs.declared.commands.CommandCode.{CommandCode}
+use Rattle.link.specs.declared.commands.CommandCode.the-variants.{MonitorOff, StartFailure, StartAlignment, MustHandOver, CountOctets, Unknown}
+use Rattle.link.specs.Commands.{commandOf, obeyed}
+use Rattle.link.specs.Calls.{Outcome, openedLink, openAnswer, commandAnswer}
 use Rattle.link.specs.declared.Answer.{Answer}
 use Rattle.input.specs.Receive.{ReceiveOutcome, boardOf, linkOf, received, receiveAnswer}
 use Rattle.input.specs.Promises.{ReceiveRises, RefusedReceive, written, LineCut, SumAtOpen, SumKeptByReceive, SumKeptByCommand, NoOctets}
@@ -134,7 +137,7 @@ line-cut l xs ys pool descriptors records records₁ records₂ z z₁ =
 -- ---- the good count
 pub sum-at-open : SumAtOpen
 unfolding openAnswer
-sum-at-open l s pool descriptors z = subst (λ (x : Outcome). Sums (x .link .counts)) (sym (done _ _ _ z)) refl
+sum-at-open l s pool descriptors z = subst (λ (x : Outcome). Sums (x .link .units .counts)) (sym (done _ _ _ z)) refl
 
 pub sum-kept-by-receive : SumKeptByReceive
 unfolding receiveAnswer
@@ -142,27 +145,26 @@ sum-kept-by-receive l octets pool descriptors records e = go (eqb (receiveNumber
   where
     go : (c : Bool)
         → Sums (cond c (received l octets pool descriptors records)
-        (record { number = receiveNumber l octets pool descriptors records; link = l; count = 0; pool = pool; descriptors = descriptors; records = records }) .link .counts)
+        (record { number = receiveNumber l octets pool descriptors records; link = l; count = 0; pool = pool; descriptors = descriptors; records = records }) .link .units .counts)
     go true = sum-over-line (l .settings) (boardOf l pool descriptors) octets e
     go false = e
 
-obeyed-counts : (c : ℕ) (l : Link) → obeyed c l .counts ≡ l .counts
+obeyed-counts : (c : CommandCode) (l : Link) → obeyed c l .units .counts ≡ l .units .counts
 unfolding obeyed
-obeyed-counts zero l = refl
-obeyed-counts (suc zero) l = refl
-obeyed-counts (suc (suc zero)) l = refl
-obeyed-counts (suc (suc (suc zero))) l = refl
-obeyed-counts (suc (suc (suc (suc zero)))) l = refl
-obeyed-counts (suc (suc (suc (suc (suc zero))))) l = refl
-obeyed-counts (suc (suc (suc (suc (suc (suc n)))))) l = refl
+obeyed-counts MonitorOff l = refl
+obeyed-counts StartFailure l = refl
+obeyed-counts StartAlignment l = refl
+obeyed-counts MustHandOver l = refl
+obeyed-counts CountOctets l = refl
+obeyed-counts Unknown l = refl
 
 pub sum-kept-by-command : SumKeptByCommand
 unfolding commandAnswer
 sum-kept-by-command l command e = go (eqb (commandNumber l command) 0)
   where
     go : (b : Bool)
-        → Sums (cond {A = Answer} b (record { number = 0; link = obeyed command l }) (record { number = commandNumber l command; link = l }) .link .counts)
-    go true = subst Sums (sym (obeyed-counts command l)) e
+        → Sums (cond {A = Answer} b (record { number = 0; link = obeyed (commandOf command) l }) (record { number = commandNumber l command; link = l }) .link .units .counts)
+    go true = subst Sums (sym (obeyed-counts (commandOf command) l)) e
     go false = e
 
 -- ---- P1

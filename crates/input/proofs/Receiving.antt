@@ -18,6 +18,7 @@ use Rattle.monitor.specs.declared.Mode.the-variants.{Off, Failure, Alignment, I
 use Rattle.records.specs.Promises.{LimitsInRange, MonitorInRange, countInRange}
 use Rattle.board.specs.declared.Settings.{Settings}
 use Rattle.board.specs.declared.Link.{Link}
+use Rattle.board.specs.With.{withReception}
 use Rattle.board.specs.Malformed.{malformed, countOut}
 use Rattle.board.proofs.Ranges.{both, Ranges, InOrder, in-order}
 use Rattle.board.proofs.Past.{past-holds}
@@ -29,7 +30,8 @@ use Rattle.reception.specs.Line.{boardAfter, lineHappenings, lineRecords}
 use Rattle.reception.specs.Writing.{StateInRange, LineTaken}
 use Rattle.link.specs.Refusals.{fitsMemory}
 use Rattle.input.specs.Refusals.{receiveNumber}
-use Rattle.input.specs.Receive.{ReceiveOutcome, progressOf, boardOf, linkAfter, received, receiveAnswer}
+use Rattle.input.specs.Progress.{progressOf}
+use Rattle.input.specs.Receive.{ReceiveOutcome, boardOf, received, receiveAnswer}
 use Rattle.link.proofs.Faults.{none}
 use Rattle.link.proofs.Answers.{done, refused}
 
@@ -83,7 +85,7 @@ module _ (l : Link) (octets pool descriptors records : List ℕ) where
     pub ready : StateInRange (l .settings) (holding (progressOf l) pool descriptors records)
     ready =
         record {
-          monitor = record { number = r .order .number; count = count-in (l .monitor .mode) (l .settings) (l .monitor .count) (r .order .count) };
+          monitor = record { number = r .order .number; count = count-in (l .supervision .monitor .mode) (l .settings) (l .supervision .monitor .count) (r .order .count) };
           fits =
               record { slots = s .k; octets = r .octets-280; words = r .words-2; next = r .order .next; counter = r .order .counter .0; reload = s .n .0 };
         }
@@ -105,7 +107,7 @@ module _ (l : Link) (octets pool descriptors records : List ℕ) where
       → LineTaken (l .settings) (l .line .state) (l .line .area) octets (holding (progressOf l) pool descriptors records) p area′ (holding (p .progress) pool′ descriptors′ records′)
       → record {
         number = 0;
-        link = linkAfter l (record { state = p .line; area = area′ }) (p .progress);
+        link = withReception l (record { state = p .line; area = area′ }) (p .progress .units) (p .progress .supervision);
         count = p .progress .count;
         pool = pool′;
         descriptors = descriptors′;
@@ -124,7 +126,7 @@ module _ (l : Link) (octets pool descriptors records : List ℕ) where
       λ i.
       record {
         number = 0;
-        link = linkAfter l (record { state = state i; area = area i }) (record { units = w i .unitMemory .units; supervision = w i .supervision; count = 0 });
+        link = withReception l (record { state = state i; area = area i }) (w i .unitMemory .units) (w i .supervision);
         count = count i;
         pool = w i .unitMemory .pool;
         descriptors = w i .unitMemory .descriptors;
@@ -141,7 +143,7 @@ module _ (l : Link) (octets pool descriptors records : List ℕ) where
 
     pub receive-done : (p : Passed) (area′ pool′ descriptors′ records′ : List ℕ) (l′ : Link) → n ≡ 0 → l .settings .m ≤ 278
         → LineTaken (l .settings) (l .line .state) (l .line .area) octets (holding (progressOf l) pool descriptors records) p area′ (holding (p .progress) pool′ descriptors′ records′)
-        → l′ ≡ linkAfter l (record { state = p .line; area = area′ }) (p .progress)
+        → l′ ≡ withReception l (record { state = p .line; area = area′ }) (p .progress .units) (p .progress .supervision)
         → record { number = 0; link = l′; count = p .progress .count; pool = pool′; descriptors = descriptors′; records = records′ }
         ≡ receiveAnswer l octets pool descriptors records
     unfolding receiveAnswer

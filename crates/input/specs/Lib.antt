@@ -1,4 +1,5 @@
 -- Receive.
 pub mod Refusals
 pub mod Receive
+pub mod Progress
 pub mod Promises

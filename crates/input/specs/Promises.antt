@@ -46,13 +46,13 @@ LineCut =
 
 -- "The good count is their sum modulo 65,536": so at opening, and each call keeps it.
 abbrev pub SumAtOpen : Type 0
-SumAtOpen = (l : Link) (s : Settings) (pool descriptors : List ℕ) → openNumber l s pool descriptors ≡ 0 → Sums (openAnswer l s pool descriptors .link .counts)
+SumAtOpen = (l : Link) (s : Settings) (pool descriptors : List ℕ) → openNumber l s pool descriptors ≡ 0 → Sums (openAnswer l s pool descriptors .link .units .counts)
 
 abbrev pub SumKeptByReceive : Type 0
-SumKeptByReceive = (l : Link) (octets pool descriptors records : List ℕ) → Sums (l .counts) → Sums (receiveAnswer l octets pool descriptors records .link .counts)
+SumKeptByReceive = (l : Link) (octets pool descriptors records : List ℕ) → Sums (l .units .counts) → Sums (receiveAnswer l octets pool descriptors records .link .units .counts)
 
 abbrev pub SumKeptByCommand : Type 0
-SumKeptByCommand = (l : Link) (command : ℕ) → Sums (l .counts) → Sums (commandAnswer l command .link .counts)
+SumKeptByCommand = (l : Link) (command : ℕ) → Sums (l .units .counts) → Sums (commandAnswer l command .link .units .counts)
 
 -- P1: no line octets, no record.
 abbrev pub NoOctets : Type 0

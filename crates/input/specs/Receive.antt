@@ -7,9 +7,8 @@ use lib.ListN.{length}
 use lib.Seq.{sets}
 use Rattle.framing.specs.Representation.{decode, encode, encodeArea}
 use Rattle.board.specs.declared.Link.{Link}
-use Rattle.board.specs.declared.Gathering.{Gathering}
+use Rattle.board.specs.With.{withReception}
 use Rattle.units.specs.Units.{unitMemory}
-use Rattle.indications.specs.declared.Progress.{Progress}
 use Rattle.reception.specs.Line.{Board, boardAfter, lineHappenings, lineRecords}
 use Rattle.input.specs.Refusals.{receiveNumber}
 
@@ -21,44 +20,19 @@ pub record ReceiveOutcome : Type 0 where
   pub descriptors : List ℕ
   pub records : List ℕ
 
--- unit state, monitor and event bits, with no record written yet
-abbrev pub progressOf : Link → Progress
-progressOf l =
-    record {
-      units = record { counting = l .counting; memory = l .memory; slots = l .slots; counts = l .counts };
-      supervision = record { monitor = l .monitor; events = l .events };
-      count = 0;
-    }
-
 -- the board that a link holds with the memory lent to it
 abbrev pub boardOf : Link → List ℕ → List ℕ → Board
 boardOf l pool descriptors =
     record {
       receiver = decode (l .line .state) (l .line .area);
-      unitMemory = unitMemory (progressOf l .units) pool descriptors;
-      supervision = progressOf l .supervision;
-    }
-
-abbrev pub linkAfter : Link → Gathering → Progress → Link
-linkAfter l g q =
-    record {
-      opened = l .opened;
-      settings = l .settings;
-      line = g;
-      counting = q .units .counting;
-      monitor = q .supervision .monitor;
-      memory = q .units .memory;
-      slots = q .units .slots;
-      counts = q .units .counts;
-      events = q .supervision .events;
-      transmitter = l .transmitter;
+      unitMemory = unitMemory (l .units) pool descriptors;
+      supervision = l .supervision;
     }
 
 -- the link that holds a board; what no line octet touches is that of l
 abbrev pub linkOf : Link → Board → Link
 linkOf l b =
-    linkAfter l (record { state = encode (b .receiver); area = encodeArea (b .receiver) })
-    (record { units = b .unitMemory .units; supervision = b .supervision; count = 0 })
+    withReception l (record { state = encode (b .receiver); area = encodeArea (b .receiver) }) (b .unitMemory .units) (b .supervision)
 
 -- "Receive returns how many it wrote. The rest of the area is unchanged."
 abbrev pub received : Link → List ℕ → List ℕ → List ℕ → List ℕ → ReceiveOutcome

@@ -3,11 +3,11 @@ use board::Gathering;
 use board::Link;
 use board::wellformed;
 use indications::Progress;
-use records::Supervision;
-use units::UnitState;
 ghost use mathlib.Core.Path.{_≡_};
+ghost use Rattle.board.specs.With.{withReception};
 ghost use Rattle.input.specs.Refusals.{receiveNumber};
-ghost use Rattle.input.specs.Receive.{progressOf, linkAfter, receiveAnswer};
+ghost use Rattle.input.specs.Progress.{progressOf};
+ghost use Rattle.input.specs.Receive.{receiveAnswer};
 
 // The number, the link, and how many records were written.
 pub struct Received {
@@ -35,45 +35,25 @@ fn receive_number(link: Link, octets: &[u8], pool: &[u8], descriptors: &[u16], r
 fn progress_of(link: Link) -> Progress
     ensures { λ r. ⌜ r ≡ progressOf link ⌝ }
 {
-    let counting = link.counting;
-    let memory = link.memory;
-    let slots = link.slots;
-    let counts = link.counts;
-    let monitor = link.monitor;
+    let units = link.units;
+    let supervision = link.supervision;
     Progress {
-        units: UnitState {
-            counting: counting,
-            memory: memory,
-            slots: slots,
-            counts: counts,
-        },
-        supervision: Supervision {
-            monitor: monitor,
-            events: link.events,
-        },
+        units: units,
+        supervision: supervision,
         count: 0,
     }
 }
 
 // The link after line octets: what none of them touches stays.
-fn link_after(link: Link, line: Gathering, q: Progress) -> Link
-    ensures { λ r. ⌜ r ≡ linkAfter link line q ⌝ }
+fn link_received(link: Link, line: Gathering, q: Progress) -> Link
+    ensures { λ r. ⌜ r ≡ withReception link line (q .units) (q .supervision) ⌝ }
 {
     let mut l = link;
     l.line = line;
-    let d = q.units;
-    let counting = d.counting;
-    l.counting = counting;
-    let memory = d.memory;
-    l.memory = memory;
-    let slots = d.slots;
-    l.slots = slots;
-    let counts = d.counts;
-    l.counts = counts;
-    let w = q.supervision;
-    let monitor = w.monitor;
-    l.monitor = monitor;
-    l.events = w.events;
+    let units = q.units;
+    l.units = units;
+    let supervision = q.supervision;
+    l.supervision = supervision;
     l
 }
 
@@ -103,7 +83,7 @@ pub fn receive(
     let line = passed.line;
     g.state = line;
     let q = passed.progress;
-    let l = link_after(link, g, q);
+    let l = link_received(link, g, q);
     Received {
         number: 0,
         link: l,

@@ -13,7 +13,8 @@ use Rattle.records.specs.Record.{recordOf, supervisionAfter, recordsOf}
 use Rattle.units.specs.Units.{erroredUnit, closedUnit, octetEffect, effectOf, unitMemoryAfter, happenings}
 use Rattle.units.specs.Indications.{lineReceiver, lineIndications}
 use Rattle.reception.specs.Line.{lineHappenings, boardAfter, lineRecords}
-use Rattle.link.specs.Calls.{openAnswer, obeyed, commandAnswer, handAnswer}
+use Rattle.link.specs.Commands.{commandOf, obeyed}
+use Rattle.link.specs.Calls.{openAnswer, commandAnswer, handAnswer}
 use Rattle.input.specs.Receive.{receiveAnswer}
 use Rattle.link.specs.Refusals.{first, fitsMemory, openNumber, commandNumber, readNumber}
 use Rattle.input.specs.Refusals.{receiveNumber}
@@ -21,5 +22,5 @@ use Rattle.lineview_board.specs.View.{boardOpened, handedFrom, fed, allW
 use Rattle.lineview_board.specs.Promises.{P2}
 
 pub p2 : P2
-unfolding allWritten boardOpened handedFrom fed bitsOf lineBits octetOf packed wholeOctets stepBit reading verdictOf step zeros emptyDescriptors clearArea noOnes zeroPast inRange lineOut counterOut monitorOut transmitterOut openMalformed isNew malformed table rowOf noted recordOf supervisionAfter recordsOf erroredUnit closedUnit octetEffect effectOf unitMemoryAfter happenings lineReceiver lineIndications lineHappenings boardAfter lineRecords openAnswer obeyed commandAnswer handAnswer receiveAnswer first fitsMemory openNumber commandNumber readNumber receiveNumber
+unfolding allWritten boardOpened handedFrom fed bitsOf lineBits octetOf packed wholeOctets stepBit reading verdictOf step zeros emptyDescriptors clearArea noOnes zeroPast inRange lineOut counterOut monitorOut transmitterOut openMalformed isNew malformed table rowOf noted recordOf supervisionAfter recordsOf erroredUnit closedUnit octetEffect effectOf unitMemoryAfter happenings lineReceiver lineIndications lineHappenings boardAfter lineRecords openAnswer commandOf obeyed commandAnswer handAnswer receiveAnswer first fitsMemory openNumber commandNumber readNumber receiveNumber
 p2 = refl

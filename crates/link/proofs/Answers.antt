@@ -15,7 +15,8 @@ use Rattle.board.specs.Malformed.{inRange, malformed}
 use Rattle.board.proofs.Ranges.{both, neither}
 use Rattle.link.specs.declared.Answer.{Answer}
 use Rattle.link.specs.Refusals.{fitsMemory, openNumber, commandNumber, readNumber}
-use Rattle.link.specs.Calls.{Outcome, outcome, openedLink, openAnswer, obeyed, commandAnswer, readPart, handAnswer}
+use Rattle.link.specs.Commands.{commandOf, obeyed}
+use Rattle.link.specs.Calls.{Outcome, outcome, openedLink, openAnswer, commandAnswer, readPart, handAnswer}
 use Rattle.link.proofs.Faults.{none}
 
 cond-true : {A : Type 0} {b : Bool} (x y : A) → b ≡ true → cond b x y ≡ x
@@ -77,20 +78,9 @@ module _ (l : Link) (command n : ℕ) (e : n ≡ commandNumber l command) where
   unfolding commandAnswer
   command-refused z = ap {B = Answer} (λ (k : ℕ). record { number = k; link = l }) e ∙ sym (refused _ _ _ (λ q. z (e ∙ q)))
 
-  pub command-done : (r : Link) → n ≡ 0 → r ≡ obeyed command l → record { number = 0; link = r } ≡ commandAnswer l command
+  pub command-done : (r : Link) → n ≡ 0 → r ≡ obeyed (commandOf command) l → record { number = 0; link = r } ≡ commandAnswer l command
   unfolding commandAnswer
   command-done r z er = ap {B = Answer} (λ (x : Link). record { number = 0; link = x }) er ∙ sym (done _ _ _ (sym e ∙ z))
-
--- a number that is no command's changes nothing
-pub no-command : (c : ℕ) (l : Link) → (c ≡ 1 → ⊥) → (c ≡ 2 → ⊥) → (c ≡ 3 → ⊥) → (c ≡ 4 → ⊥) → (c ≡ 5 → ⊥) → l ≡ obeyed c l
-unfolding obeyed
-no-command zero l a b c d e = refl
-no-command (suc zero) l a b c d e = absurd (a refl)
-no-command (suc (suc zero)) l a b c d e = absurd (b refl)
-no-command (suc (suc (suc zero))) l a b c d e = absurd (c refl)
-no-command (suc (suc (suc (suc zero)))) l a b c d e = absurd (d refl)
-no-command (suc (suc (suc (suc (suc zero))))) l a b c d e = absurd (e refl)
-no-command (suc (suc (suc (suc (suc (suc n)))))) l a b c d e = refl
 
 -- ---- read and hand back
 pub record Readable (l : Link) (pool descriptors : List ℕ) (slot : ℕ) : Type 0 where

@@ -1,19 +1,16 @@
 -- What each call answers, and what stands in the lent memory then. "A refusal returns its number, the link as given and zero for
 -- every other number of the answer; a refused read returns an empty part. No lent octet or word changes."
-use Prim.Native.Nat.{ℕ, zero, suc}
-use mathlib.Core.Bool.{Bool, true, false, cond}
+use Prim.Native.Nat.{ℕ}
+use mathlib.Core.Bool.{true, false, cond}
 use mathlib.Core.List.{List, []}
 use lib.Dec.{eqb}
 use lib.ListN.{take}
 use Rattle.memory.specs.Lent.{wiped, emptyDescriptors, lengthOf, slotOf, withSlot, withDescriptor, emptySlot}
-use Rattle.monitor.specs.declared.Mode.the-variants.{Failure, Alignment}
-use Rattle.monitor.specs.Monitor.{started, stopped}
-use Rattle.filter.specs.Memory.{emptyMemory}
 use Rattle.board.specs.declared.Settings.{Settings}
 use Rattle.board.specs.declared.Link.{Link}
-use Rattle.board.specs.Link.{newLink}
-use Rattle.board.specs.With.{withMonitor, withMemory, withCounting}
+use Rattle.board.specs.Link.{newLink, newUnits}
 use Rattle.link.specs.declared.Answer.{Answer}
+use Rattle.link.specs.Commands.{commandOf, obeyed}
 use Rattle.link.specs.Refusals.{openNumber, commandNumber, readNumber}
 
 -- the answer of a call that is lent pool and descriptors
@@ -34,12 +31,8 @@ openedLink s =
       opened = true;
       settings = s;
       line = newLink .line;
-      counting = record { on = false; left = s .n };
-      monitor = newLink .monitor;
-      memory = newLink .memory;
-      slots = newLink .slots;
-      counts = newLink .counts;
-      events = newLink .events;
+      units = record { counting = record { on = false; left = s .n }; memory = newUnits .memory; slots = newUnits .slots; counts = newUnits .counts };
+      supervision = newLink .supervision;
       transmitter = newLink .transmitter;
     }
 
@@ -59,21 +52,10 @@ pub record Wiped : Type 0 where
 abbrev pub wipeAnswer : List ℕ → List ℕ → Wiped
 wipeAnswer octets words = record { link = newLink; octets = wiped octets; words = wiped words }
 
--- "1 monitor off (its counts stay), 2 start failure monitor, 3 start alignment monitor, 4 next unit must be handed over (empties the
--- filter), 5 enter octet counting"
-unfoldable pub obeyed : ℕ → Link → Link
-obeyed zero l = l
-obeyed (suc zero) l = withMonitor l (stopped (l .monitor))
-obeyed (suc (suc zero)) l = withMonitor l (started Failure)
-obeyed (suc (suc (suc zero))) l = withMonitor l (started Alignment)
-obeyed (suc (suc (suc (suc zero)))) l = withMemory l emptyMemory
-obeyed (suc (suc (suc (suc (suc zero))))) l = withCounting l (record { on = true; left = l .counting .left })
-obeyed (suc (suc (suc (suc (suc (suc n)))))) l = l
-
 unfoldable pub commandAnswer : Link → ℕ → Answer
 commandAnswer l command =
     cond (eqb (commandNumber l command) 0)
-    (record { number = 0; link = obeyed command l })
+    (record { number = 0; link = obeyed (commandOf command) l })
     (record { number = commandNumber l command; link = l })
 
 -- "Read returns the first length octets of the slot, as a part of the pool"

@@ -8,6 +8,7 @@ use Rattle.memory.specs.Lent.{zeros, statusOf, lengthOf}
 use Rattle.board.specs.declared.Settings.{Settings}
 use Rattle.board.specs.declared.Link.{Link}
 use Rattle.board.specs.Malformed.{inRange, malformed}
+use Rattle.link.specs.Commands.{commandOf, isUnknown}
 
 pub record Fault : Type 0 where
   pub found : Bool
@@ -48,7 +49,7 @@ abbrev pub commandFaults : Link → ℕ → List Fault
 commandFaults l command =
     fault (malformed l) 1
     ∷ fault (not (l .opened)) 2
-    ∷ fault (ltb command 1 || ltb 5 command) 11
+    ∷ fault (isUnknown (commandOf command)) 11
     ∷ []
 
 abbrev pub readFaults : Link → List ℕ → List ℕ → ℕ → List Fault

@@ -44,7 +44,9 @@ fn opened_link(settings: Settings) -> Link
         on: false,
         left: settings.n,
     };
-    l.counting = counting;
+    let mut u = l.units;
+    u.counting = counting;
+    l.units = u;
     l
 }
 

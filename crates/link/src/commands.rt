@@ -1,57 +1,118 @@
 // Commands: the monitors, the filter, octet counting.
 use crate::Answer;
-use board::Counting;
 use board::Link;
 use board::wellformed;
 use filter::Memory;
 use monitor::Monitor;
 ghost use mathlib.Core.Path.{_≡_};
+ghost use Rattle.board.specs.With.{withMonitor};
 ghost use Rattle.link.specs.Refusals.{commandNumber};
-ghost use Rattle.link.specs.Calls.{obeyed, commandAnswer};
+ghost use Rattle.link.specs.Commands.{commandOf, isUnknown, obeyed};
+ghost use Rattle.link.specs.Calls.{commandAnswer};
+
+// The commands, and any number that is none.
+pub enum CommandCode {
+    MonitorOff,
+    StartFailure,
+    StartAlignment,
+    MustHandOver,
+    CountOctets,
+    Unknown,
+}
+
+// The command of a number.
+fn command_of(number: u16) -> CommandCode
+    ensures { λ r. ⌜ r ≡ commandOf number ⌝ }
+{
+    if number == 1 {
+        return CommandCode::MonitorOff;
+    }
+    if number == 2 {
+        return CommandCode::StartFailure;
+    }
+    if number == 3 {
+        return CommandCode::StartAlignment;
+    }
+    if number == 4 {
+        return CommandCode::MustHandOver;
+    }
+    if number == 5 {
+        return CommandCode::CountOctets;
+    }
+    CommandCode::Unknown
+}
+
+// Whether a number is no command's.
+fn is_unknown(code: CommandCode) -> bool
+    ensures { λ r. ⌜ r ≡ isUnknown code ⌝ }
+{
+    match code {
+        CommandCode::MonitorOff => false,
+        CommandCode::StartFailure => false,
+        CommandCode::StartAlignment => false,
+        CommandCode::MustHandOver => false,
+        CommandCode::CountOctets => false,
+        CommandCode::Unknown => true,
+    }
+}
 
 // The number that command answers.
 fn command_number(link: Link, command: u16) -> u8
     ensures { λ r. ⌜ r ≡ commandNumber link command ⌝ }
 {
     let malformed = wellformed::is_malformed(link);
-    let eleven = crate::refuse((command < 1) | (5 < command), 11, 0);
+    let code = command_of(command);
+    let unknown = is_unknown(code);
+    let eleven = crate::refuse(unknown, 11, 0);
     let two = crate::refuse(!link.opened, 2, eleven);
     crate::refuse(malformed, 1, two)
 }
 
-// What a known command makes of a link.
-fn obey(link: Link, command: u16) -> Link
-    ensures { λ r. ⌜ r ≡ obeyed command link ⌝ }
+// The link with another monitor.
+fn with_monitor(link: Link, monitor: Monitor) -> Link
+    ensures { λ r. ⌜ r ≡ withMonitor link monitor ⌝ }
 {
     let mut l = link;
-    if command == 1 {
-        let m = l.monitor.stop();
-        l.monitor = m;
-        return l;
-    }
-    if command == 2 {
-        let m = Monitor::failure();
-        l.monitor = m;
-        return l;
-    }
-    if command == 3 {
-        let m = Monitor::alignment();
-        l.monitor = m;
-        return l;
-    }
-    if command == 4 {
-        let e = Memory::empty();
-        l.memory = e;
-        return l;
-    }
-    if command == 5 {
-        let counting = Counting {
-            on: true,
-            left: l.counting.left,
-        };
-        l.counting = counting;
-    }
+    let mut v = l.supervision;
+    v.monitor = monitor;
+    l.supervision = v;
     l
+}
+
+// What a command makes of a link.
+fn obey(link: Link, code: CommandCode) -> Link
+    ensures { λ r. ⌜ r ≡ obeyed code link ⌝ }
+{
+    let mut l = link;
+    match code {
+        CommandCode::MonitorOff => {
+            let m = l.supervision.monitor;
+            let off = m.stop();
+            return with_monitor(l, off);
+        }
+        CommandCode::StartFailure => {
+            let failure = Monitor::failure();
+            return with_monitor(l, failure);
+        }
+        CommandCode::StartAlignment => {
+            let alignment = Monitor::alignment();
+            return with_monitor(l, alignment);
+        }
+        CommandCode::MustHandOver => {
+            let empty = Memory::empty();
+            let mut u = l.units;
+            u.memory = empty;
+            l.units = u;
+            return l;
+        }
+        CommandCode::CountOctets => {
+            let mut u = l.units;
+            u.counting.on = true;
+            l.units = u;
+            return l;
+        }
+        CommandCode::Unknown => return l,
+    }
 }
 
 // 1 monitor off, 2 start failure monitor, 3 start alignment monitor, 4 next unit must be handed over, 5 enter octet counting.
@@ -65,6 +126,7 @@ pub fn command(link: Link, command: u16) -> Answer
             link: link,
         };
     }
-    let l = obey(link, command);
+    let code = command_of(command);
+    let l = obey(link, code);
     Answer { number: 0, link: l }
 }

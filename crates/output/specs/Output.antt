@@ -12,6 +12,7 @@ use Rattle.sending.specs.Stuffing.{flag, unitLine}
 use Rattle.sending.specs.Packing.{octetsOut, stillWaiting}
 use Rattle.board.specs.declared.Transmitter.{Transmitter}
 use Rattle.board.specs.declared.Link.{Link}
+use Rattle.board.specs.With.{withSender}
 use Rattle.output.specs.Refusals.{sendNumber, fillNumber}
 
 pub record OutputOutcome : Type 0 where
@@ -48,18 +49,8 @@ fillEvent false = 0
 -- the link with so many bits waiting in its waiting octet, and an event bit more
 abbrev pub linkSent : Link → ℕ → ℕ → Bool → List ℕ → ℕ → Link
 linkSent l count wait sent last event =
-    record {
-      opened = l .opened;
-      settings = l .settings;
-      line = l .line;
-      counting = l .counting;
-      monitor = l .monitor;
-      memory = l .memory;
-      slots = l .slots;
-      counts = l .counts;
-      events = bitOr (l .events) event;
-      transmitter = record { flagged = true; count = count; wait = wait; sent = sent; last = last };
-    }
+    withSender l (record { flagged = true; count = count; wait = wait; sent = sent; last = last })
+    (record { monitor = l .supervision .monitor; events = bitOr (l .supervision .events) event })
 
 -- "Whole octets go out and their number is returned; the rest of the area is unchanged"
 abbrev pub putOut : Link → List Bool → Bool → List ℕ → ℕ → List ℕ → OutputOutcome

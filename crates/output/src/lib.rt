@@ -73,7 +73,9 @@ fn link_sent(l: Link, s: Tx, sent: bool, last: [u8; 2], event: u16) -> Link
         last: last,
     };
     after.transmitter = transmitter;
-    after.events = l.events | event;
+    let mut v = l.supervision;
+    v.events = v.events | event;
+    after.supervision = v;
     after
 }
 

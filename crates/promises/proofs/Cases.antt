@@ -16,7 +16,8 @@ use Rattle.board.specs.Rows.{rowOf, table}
 use Rattle.units.specs.Indications.{lineIndications, lineReceiver}
 use Rattle.units.specs.Units.{happenings, effectOf, octetEffect, closedUnit, erroredUnit, goodUnit, unitMemoryAfter}
 use Rattle.reception.specs.Line.{boardAfter, lineHappenings, lineRecords}
-use Rattle.link.specs.Calls.{Outcome, outcome, obeyed, handAnswer}
+use Rattle.link.specs.Commands.{obeyed}
+use Rattle.link.specs.Calls.{Outcome, outcome, handAnswer}
 use Rattle.board.specs.declared.Link.{Link}
 use Rattle.input.specs.Receive.{ReceiveOutcome, boardOf, linkOf, received, receiveAnswer}
 use Rattle.input.specs.Promises.{written}

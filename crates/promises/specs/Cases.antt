@@ -8,7 +8,9 @@ use Rattle.memory.specs.Lent.{emptyDescriptors}
 use Rattle.board.specs.declared.Settings.{Settings}
 use Rattle.board.specs.declared.Link.{Link}
 use Rattle.board.specs.Rows.{rowOf}
-use Rattle.link.specs.Calls.{openedLink, obeyed, handAnswer}
+use Rattle.link.specs.declared.commands.CommandCode.the-variants.{StartFailure}
+use Rattle.link.specs.Commands.{obeyed}
+use Rattle.link.specs.Calls.{openedLink, handAnswer}
 use Rattle.input.specs.Receive.{ReceiveOutcome, receiveAnswer}
 use Rattle.input.specs.Promises.{written}
 
@@ -30,7 +32,7 @@ bench k filter =
 
 -- opened, and the failure monitor started
 abbrev pub benchStarted : ℕ → Bool → Link
-benchStarted k filter = obeyed 2 (openedLink (bench k filter))
+benchStarted k filter = obeyed StartFailure (openedLink (bench k filter))
 
 -- P2: 7E 00 00 00 7E gives 05 00 03 00 and twelve octets 00.
 abbrev pub P2 : Type 0

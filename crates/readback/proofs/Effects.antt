@@ -16,7 +16,7 @@ use Rattle.memory.proofs.Slots.{slot-written, descriptor-written, filled-length
 use Rattle.board.specs.declared.Settings.{Settings}
 use Rattle.board.specs.declared.Counting.{Counting}
 use Rattle.records.specs.declared.Happening.{Happening}
-use Rattle.records.specs.declared.Supervision.{Supervision}
+use Rattle.board.specs.declared.Supervision.{Supervision}
 use Rattle.records.specs.Happening.{noted}
 use Rattle.records.specs.Record.{supervised, recordsOf}
 use Rattle.units.specs.Indications.{Indication, found, octetEnd, lineIndications}

@@ -61,9 +61,9 @@ orderly l o r i =
     (or-false _ _
     (or-false _ _ (le-ltb 7 (l .line .state .run) (i .run)) (le-ltb (8 * l .settings .m + 7) (l .line .state .bits) (i .bits)))
     (none-then (l .line .state .hunting) (l .line .state .bits) (i .idle))))
-    (or-false _ _ (le-ltb (l .counting .left) 1 (i .counter .0)) (le-ltb (l .settings .n) (l .counting .left) (i .counter .1))))
-    (or-false _ _ (lt-leb (l .settings .d) (l .monitor .number) (i .number)) (i .count)))
-    (lt-leb (l .settings .k) (l .slots .next) (i .next)))
+    (or-false _ _ (le-ltb (l .units .counting .left) 1 (i .counter .0)) (le-ltb (l .settings .n) (l .units .counting .left) (i .counter .1))))
+    (or-false _ _ (lt-leb (l .settings .d) (l .supervision .monitor .number) (i .number)) (i .count)))
+    (lt-leb (l .settings .k) (l .units .slots .next) (i .next)))
     (or-false _ _
     (or-false _ _ (le-ltb 7 (l .transmitter .count) (i .waiting)) (not-on (l .transmitter .flagged) (l .transmitter .count) (i .unflagged)))
     (ap not (i .wait)))

@@ -21,7 +21,7 @@ use Rattle.monitor.specs.declared.Limits.{Limits}
 use Rattle.monitor.specs.Monitor.{started, step}
 use Rattle.board.specs.declared.Settings.{Settings}
 use Rattle.records.specs.declared.Happening.{Happening}
-use Rattle.records.specs.declared.Supervision.{Supervision}
+use Rattle.board.specs.declared.Supervision.{Supervision}
 use Rattle.records.specs.Happening.{noted}
 use Rattle.records.specs.Record.{supervisionAfter, recordsOf}
 use Rattle.units.specs.Indications.{Indication, found, octetEnd, octetReceiver, lineIndications}

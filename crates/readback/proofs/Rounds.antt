@@ -20,7 +20,7 @@ use Rattle.monitor.specs.Monitor.{started}
 use Rattle.board.specs.declared.Settings.{Settings}
 use Rattle.board.specs.declared.Link.{Link}
 use Rattle.records.specs.declared.Happening.{Happening}
-use Rattle.records.specs.declared.Supervision.{Supervision}
+use Rattle.board.specs.declared.Supervision.{Supervision}
 use Rattle.records.specs.Record.{supervisionAfter, recordsOf}
 use Rattle.units.specs.Indications.{Indication, found, octetEnd, lineIndications}
 use Rattle.units.specs.Units.{UnitMemory, nextUnitMemory, happens, happenings}
@@ -119,8 +119,8 @@ hand-links (slot ∷ slots) h = hand-links slots (handedBack h slot) ∙ hand-li
 -- ---- a link that reads a line: the bits to come bring these units
 pub record Reads (l : Link) (bits : List Bool) (us : List (List ℕ)) : Type 0 where
   pub off : l .settings .filter ≡ false
-  pub still : l .counting .on ≡ false
-  pub monitor : l .monitor ≡ started Off
+  pub still : l .units .counting .on ≡ false
+  pub monitor : l .supervision .monitor ≡ started Off
   pub allowed : AllAllowed (l .settings .m) us
   pub coming : findings (l .settings .m) (decode (l .line .state) (l .line .area)) bits ≡ closings us
 
@@ -178,9 +178,9 @@ module _ (h : Held) (f : Feed) (z : answer h f .number ≡ 0) where
   unfolding boardAfter
   call-receiver = ap (λ (b : Board). b .receiver) (board-fed h f z) ∙ by-bits (S .m) (f .octets) R
 
-  module _ (us : List (List ℕ)) (unseen : h .link .monitor ≡ started Off) (is : Handed S O indications us) where
-    off-supervision : board h .supervision ≡ unsupervised (h .link .events)
-    off-supervision = ap {B = Supervision} (λ (m : Monitor). record { monitor = m; events = h .link .events }) unseen
+  module _ (us : List (List ℕ)) (unseen : h .link .supervision .monitor ≡ started Off) (is : Handed S O indications us) where
+    off-supervision : board h .supervision ≡ unsupervised (h .link .supervision .events)
+    off-supervision = ap {B = Supervision} (λ (m : Monitor). record { monitor = m; events = h .link .supervision .events }) unseen
 
     call-count : answer h f .count ≡ length us
     unfolding lineHappenings
@@ -194,22 +194,22 @@ module _ (h : Held) (f : Feed) (z : answer h f .number ≡ 0) where
     call-records =
         records-wrote h f z
         ∙ ap₂ (λ (w : Supervision) (hs : List Happening). recordsOf (monitorLimits S) w hs) off-supervision (is .all)
-        ∙ handed-records (S .k) (monitorLimits S) us (ringOf h) (h .link .events)
+        ∙ handed-records (S .k) (monitorLimits S) us (ringOf h) (h .link .supervision .events)
 
     call-ring : ringOf (fed h f) ≡ ringAfter (S .k) (ringOf h) us
     unfolding boardAfter
     call-ring = ap (λ (b : Board). ringOfUnits (b .unitMemory)) (board-fed h f z) ∙ is .ring
 
-    call-still : fed h f .link .counting .on ≡ false
+    call-still : fed h f .link .units .counting .on ≡ false
     unfolding boardAfter
     call-still = ap (λ (b : Board). b .unitMemory .units .counting .on) (board-fed h f z) ∙ is .still
 
-    call-unsupervised : fed h f .link .monitor ≡ started Off
+    call-unsupervised : fed h f .link .supervision .monitor ≡ started Off
     unfolding boardAfter lineHappenings
     call-unsupervised =
         ap (λ (b : Board). b .supervision .monitor) (board-fed h f z)
         ∙ ap₂ (λ (w : Supervision) (hs : List Happening). supervisionAfter (monitorLimits S) w hs .monitor) off-supervision (is .all)
-        ∙ handed-unsupervised (S .k) (monitorLimits S) us (ringOf h) (h .link .events)
+        ∙ handed-unsupervised (S .k) (monitorLimits S) us (ringOf h) (h .link .supervision .events)
 
   -- of a link that reads a line, with every slot empty and one for each unit
   pub called : (bits later : List Bool) (ws : List (List ℕ)) → Reads (h .link) bits ws → (p : Parts later ws)

@@ -19,7 +19,7 @@ use Rattle.reception.specs.Line.{Board, boardAfter, lineRecords}
 use Rattle.indications.specs.Writing.{holding, indicationsDone}
 use Rattle.reception.proofs.Octets.{ready-kept}
 use Rattle.reception.proofs.Cutting.{board-cut, records-cut, sixteen-each}
-use Rattle.input.specs.Receive.{progressOf}
+use Rattle.input.specs.Progress.{progressOf}
 use Rattle.input.proofs.Receiving.{Receivable, limits, ready}
 use Rattle.link.specs.Held.{Held}
 use Rattle.readback.specs.Feeding.{board, Feed, heldAfter, recordsFed, octetsFed, Answered, none, more}

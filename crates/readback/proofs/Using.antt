@@ -22,7 +22,8 @@ use Rattle.reception.proofs.Octets.{ready-kept}
 use Rattle.link.specs.Refusals.{first, fitsMemory, readNumber}
 use Rattle.input.specs.Refusals.{receiveNumber}
 use Rattle.link.specs.Calls.{Outcome, openedLink, readPart}
-use Rattle.input.specs.Receive.{ReceiveOutcome, progressOf, linkOf, received, receiveAnswer}
+use Rattle.input.specs.Progress.{progressOf}
+use Rattle.input.specs.Receive.{ReceiveOutcome, linkOf, received, receiveAnswer}
 use Rattle.link.proofs.Answers.{done, openable}
 use Rattle.link.proofs.Kept.{open-number, opened}
 use Rattle.input.proofs.Receiving.{Receivable, receivable, limits, ready}

@@ -38,7 +38,7 @@ pub data Roomy : Held → List Round → Type 0 where
 
 -- the slots of a link
 abbrev pub ringOf : Held → SlotRing
-ringOf h = record { next = h .link .slots .next; pool = h .pool; descriptors = h .descriptors; good = h .link .counts .good }
+ringOf h = record { next = h .link .units .slots .next; pool = h .pool; descriptors = h .descriptors; good = h .link .units .counts .good }
 
 -- Each call hands over the first of the units that are still to come, and nothing else: their records are all that it writes, and they
 -- stand one after the other in the slots, before those are handed back. Together the calls hand over all of them.

@@ -5,7 +5,7 @@ use mathlib.Core.List.{List, [], _∷_, _++_}
 use native.Mathlib.Omega.{arith}
 use lib.ListN.{length, length-append}
 use Rattle.records.specs.declared.Happening.{Happening}
-use Rattle.records.specs.declared.Supervision.{Supervision}
+use Rattle.board.specs.declared.Supervision.{Supervision}
 use Rattle.records.specs.Record.{supervisionAfter, recordsOf}
 use Rattle.records.proofs.Supervising.{supervision-append, records-append, records-length}
 use Rattle.framing.specs.Delimitation.{Receiver}

@@ -21,7 +21,7 @@ use Rattle.framing.proofs.Bound.{two-findings}
 use Rattle.framing.proofs.Readings.{reading-after, reading-findings}
 use Rattle.framing.proofs.Stops.{reading-single, reading-flag, reading-shorter}
 use Rattle.records.specs.declared.Happening.{Happening}
-use Rattle.records.specs.declared.Supervision.{Supervision}
+use Rattle.board.specs.declared.Supervision.{Supervision}
 use Rattle.records.specs.Record.{supervised, supervisionAfter, recordsOf}
 use Rattle.records.specs.Promises.{FirstFive, none, more, LimitsInRange, MonitorInRange}
 use Rattle.records.proofs.Range.{stays-in-range}

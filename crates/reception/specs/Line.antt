@@ -1,7 +1,7 @@
 -- A run of line octets: the receiver gives indications, the unit state happenings, the supervision records.
 use Prim.Native.Nat.{ℕ}
 use mathlib.Core.List.{List}
-use Rattle.records.specs.declared.Supervision.{Supervision}
+use Rattle.board.specs.declared.Supervision.{Supervision}
 use Rattle.records.specs.Record.{supervisionAfter, recordsOf}
 use Rattle.framing.specs.Delimitation.{Receiver}
 use Rattle.board.specs.declared.Settings.{Settings}

@@ -9,7 +9,7 @@ use Rattle.bits.specs.Octets.{worth}
 use Rattle.bits.specs.Machine.{run-append, outs-append}
 use Rattle.monitor.specs.declared.Limits.{Limits}
 use Rattle.records.specs.declared.Happening.{Happening}
-use Rattle.records.specs.declared.Supervision.{Supervision}
+use Rattle.board.specs.declared.Supervision.{Supervision}
 use Rattle.records.specs.declared.Noted.{Noted}
 use Rattle.records.specs.Happening.{noted}
 use Rattle.records.specs.Record.{recordOf, supervised, recorded, supervisionAfter, recordsOf}

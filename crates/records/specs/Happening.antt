@@ -9,7 +9,7 @@ use Rattle.monitor.specs.declared.Limits.{Limits}
 use Rattle.monitor.specs.declared.Stepped.{Stepped}
 use Rattle.monitor.specs.Monitor.{step}
 use Rattle.records.specs.declared.Happening.{Happening}
-use Rattle.records.specs.declared.Supervision.{Supervision}
+use Rattle.board.specs.declared.Supervision.{Supervision}
 use Rattle.records.specs.declared.Noted.{Noted}
 
 -- "Event bits, kept until cleared: [..] 2 SUER, 3 AERM"

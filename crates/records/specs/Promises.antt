@@ -11,7 +11,7 @@ use Rattle.monitor.specs.declared.Mode.the-variants.{Off, Failure, Alignment, I
 use Rattle.monitor.specs.declared.Monitor.{Monitor}
 use Rattle.monitor.specs.declared.Limits.{Limits}
 use Rattle.records.specs.declared.Happening.{Happening}
-use Rattle.records.specs.declared.Supervision.{Supervision}
+use Rattle.board.specs.declared.Supervision.{Supervision}
 use Rattle.records.specs.Happening.{noted}
 use Rattle.records.specs.Record.{low-high, recordOf, supervised, recorded, supervisionAfter, recordsOf}
 

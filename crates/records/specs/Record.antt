@@ -6,7 +6,7 @@ use Rattle.bits.specs.Octets.{worth}
 use Rattle.bits.specs.Machine.{run, outs}
 use Rattle.monitor.specs.declared.Limits.{Limits}
 use Rattle.records.specs.declared.Happening.{Happening}
-use Rattle.records.specs.declared.Supervision.{Supervision}
+use Rattle.board.specs.declared.Supervision.{Supervision}
 use Rattle.records.specs.Happening.{noted}
 
 -- a number of sixteen bits as two octets

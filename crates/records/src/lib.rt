@@ -1,7 +1,7 @@
 // What happens on a link, what the monitor makes of it, and its record of sixteen octets.
+use board::Supervision;
 use monitor::Alarm;
 use monitor::Limits;
-use monitor::Monitor;
 ghost use mathlib.Core.Path.{_≡_};
 ghost use mathlib.Core.List.{[], _∷_, _++_};
 ghost use Prim.Native.Nat.{_+_, _*_, _≤_, _<_};
@@ -23,12 +23,6 @@ pub struct Happening {
     pub event: bool,
     pub errored: bool,
     pub bits: u16,
-}
-
-// The monitor and the event bits.
-pub struct Supervision {
-    pub monitor: Monitor,
-    pub events: u16,
 }
 
 // What a happening leaves: the supervision, and whether it raised SUER or AERM.

@@ -73,4 +73,4 @@ abbrev pub ThreeSent : Type 0
 ThreeSent =
     (octetsSent (openedLink row1) three ≡ 0x7e ∷ 0x1f ∷ 0x04 ∷ 0x06 ∷ 0x6a ∷ 0x11 ∷ 0xfc ∷ 0x3e ∷ 0x08 ∷ 0x00 ∷ 0xb8 ∷ 0xe8 ∷ 0xf8 ∷ [])
     × (waitingBits (linkAfter (openedLink row1) three) ≡ true ∷ false ∷ [])
-    × (linkAfter (openedLink row1) three .events ≡ 384)
+    × (linkAfter (openedLink row1) three .supervision .events ≡ 384)

@@ -15,7 +15,7 @@ use Rattle.board.specs.declared.Settings.{Settings}
 use Rattle.board.specs.declared.Counting.{Counting}
 use Rattle.board.specs.declared.Counts.{Counts}
 use Rattle.records.specs.declared.Happening.{Happening}
-use Rattle.units.specs.declared.UnitState.{UnitState}
+use Rattle.board.specs.declared.UnitState.{UnitState}
 use Rattle.units.specs.Units.{UnitMemory, unitMemory, effect, unitStateOf, begins, firstFive, isFree, goodCounts, overCounts, droppedCounts, lostCounts, goodUnit, erroredUnit}
 use Rattle.units.proofs.FirstFive.{five-take}
 

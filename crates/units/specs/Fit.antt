@@ -4,7 +4,7 @@ use mathlib.Core.Path.{_≡_}
 use mathlib.Core.List.{List}
 use lib.ListN.{length}
 use Rattle.board.specs.declared.Settings.{Settings}
-use Rattle.units.specs.declared.UnitState.{UnitState}
+use Rattle.board.specs.declared.UnitState.{UnitState}
 
 -- the lent memory is that of K slots, the next slot is one of them, and N's counter runs
 pub record Fits (s : Settings) (d : UnitState) (pool descriptors : List ℕ) : Type 0 where

@@ -21,7 +21,7 @@ use Rattle.board.specs.declared.Settings.{Settings}
 use Rattle.board.specs.declared.Counting.{Counting}
 use Rattle.board.specs.declared.Counts.{Counts}
 use Rattle.records.specs.declared.Happening.{Happening}
-use Rattle.units.specs.declared.UnitState.{UnitState}
+use Rattle.board.specs.declared.UnitState.{UnitState}
 use Rattle.units.specs.declared.Taken.{Taken}
 use Rattle.units.specs.Indications.{Indication, found, octetEnd}
 

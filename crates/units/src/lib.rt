@@ -3,6 +3,7 @@ use board::Counting;
 use board::Counts;
 use board::Settings;
 use board::Slots;
+use board::UnitState;
 use filter::Fate;
 use filter::Memory;
 use framing::Verdict;
@@ -17,15 +18,6 @@ ghost use Rattle.bits.specs.Octets.{lineBits, packed};
 ghost use Rattle.memory.specs.Lent.{statusOf};
 ghost use Rattle.units.specs.Units.{unitMemory, effect, unitStateOf, firstFive, goodCounts, overCounts, droppedCounts, lostCounts, goodUnit, erroredUnit, shortTaken, closedUnit, broken, tickOf};
 ghost use Rattle.units.specs.Fit.{Fits};
-
-// The parts of the link that deal with units: octet counting, the filter's memory, the next slot, the counts.
-#[repr(C)]
-pub struct UnitState {
-    pub counting: Counting,
-    pub memory: Memory,
-    pub slots: Slots,
-    pub counts: Counts,
-}
 
 // The unit state after a finding, and what happened.
 pub struct Taken {

@@ -1,4 +1,4 @@
--- `indications::put_down` meets its contract: what the monitor notes is what is recorded.
+-- `indications::note_and_record` meets its contract: what the monitor notes is what is recorded.
 use Rattle.indications.proofs.Recording.{note-and-record-way}
 use Rattle.indications.specs.Writing.{monitorLimits}
 use Rattle.records.proofs.Range.{range-takes}

@@ -1,4 +1,4 @@
--- `link::line::receive` meets its contract: refused, or the octets are taken and the link is put together again.
+-- `input::receive` meets its contract: refused, or the octets are taken and the link is put together again.
 use Prim.Native.Nat.{_+_, _*_, _≤_}
 use mathlib.Core.Path.{_≡_, sym, subst, _∙_}
 use native.Mathlib.Omega.{arith}
@@ -49,8 +49,8 @@ take-line-requires c κs =
       (held (a .link) (a .octets .now) (a .pool .now) (a .descriptors .now) (a .records .now) ok typed, subst (λ (x : Progress). 16 * x .count + 48 * length (a .octets .now) ≤ length (a .records .now)) (sym p) (omega (arith, ok .room)), ok .few),
     )
 
-link-after-requires : tie.Need-link-after-requires
-link-after-requires c κs = search needs
+link-received-requires : tie.Need-link-received-requires
+link-received-requires c κs = search needs
 
 same-length-4 : tie.Need-same-length-4
 same-length-4 c = search needs
@@ -70,11 +70,11 @@ returns-2 c =
     let p = c .before .before .before .before .before .before .before .before .before .before .before .before .before .before .before .before .before .progress-of .ensures in
     let t = c .before .before .before .before .before .before .before .before .before .take-line in
     receive-done (a .link) (a .octets .now) (a .pool .now) (a .descriptors .now) (a .records .now) (n .result) (n .ensures) (t .result) (t .last .1 .1 .1 .1 .0) (t .last .1 .1 .1 .1 .1 .0) (t .last .1 .1 .1 .1 .1 .1 .0)
-    (t .last .1 .1 .1 .1 .1 .1 .1 .0) (c .link-after .result) z (ok .order .settings .m .1)
+    (t .last .1 .1 .1 .1 .1 .1 .1 .0) (c .link-received .result) z (ok .order .settings .m .1)
     (subst (λ (x : Progress).
     LineTaken (a .link .settings) (a .link .line .state) (a .link .line .area) (a .octets .now) (holding x (a .pool .now) (a .descriptors .now) (a .records .now)) (t .result)
     (t .last .1 .1 .1 .1 .0) (holding (t .result .progress) (t .last .1 .1 .1 .1 .1 .0) (t .last .1 .1 .1 .1 .1 .1 .0) (t .last .1 .1 .1 .1 .1 .1 .1 .0))) p (t .ensures))
-    (c .link-after .ensures)
+    (c .link-received .ensures)
 
 pub receive-spec : {M : Type 1} → statement M
 receive-spec =
@@ -87,7 +87,7 @@ receive-spec =
     returns
     progress-of-requires
     take-line-requires
-    link-after-requires
+    link-received-requires
     same-length-4
     same-length-5
     same-length-6

@@ -37,7 +37,7 @@ put-flag-requires c κs =
     let e = fill-number (a .l) (a .output .now) (n .result) (n .ensures) in
     let ok = fillable (a .l) (a .output .now) (sym e ∙ c .before .before .before .before .before .before .if1 .left) in
     subst (λ (x : Tx). TxInRange x × Room x flag (a .output .now)) (sym (c .before .sender-of .ensures))
-    (ready (a .l) (ok .order) (s .good .0 .1 .1 .1 .1 .1 .1 .1 .1 .1 .1 .1 .0 .1 .1 .1 .1 .0 .1), flag-room (a .l) (a .output .now) ok)
+    (ready (a .l) (ok .order) (s .good .0 .1 .1 .1 .1 .1 .1 .1 .0 .1 .1 .1 .1 .0 .1), flag-room (a .l) (a .output .now) ok)
 
 link-sent-requires : tie.Need-link-sent-requires
 link-sent-requires c κs = search needs
@@ -70,8 +70,8 @@ put-out-requires c κs =
     let n = c .before .before .before .before .before .before .before .shared-number in
     let e = fill-number (a .l) (a .output .now) (n .result) (n .ensures) in
     let ok = fillable (a .l) (a .output .now) (sym e ∙ c .before .before .before .before .before .before .if1 .left) in
-    let typed = array-of-octets 2 (a .l .transmitter .last) _ (s .good .0 .1 .1 .1 .1 .1 .1 .1 .1 .1 .1 .1 .0 .1 .1 .1 .1 .1 .1 .0) in
-    (ready (a .l) (ok .order) (s .good .0 .1 .1 .1 .1 .1 .1 .1 .1 .1 .1 .1 .0 .1 .1 .1 .1 .0 .1), unit-room (a .l) _ (a .output .now) ok (omega arith))
+    let typed = array-of-octets 2 (a .l .transmitter .last) _ (s .good .0 .1 .1 .1 .1 .1 .1 .1 .0 .1 .1 .1 .1 .1 .1 .0) in
+    (ready (a .l) (ok .order) (s .good .0 .1 .1 .1 .1 .1 .1 .1 .0 .1 .1 .1 .1 .0 .1), unit-room (a .l) _ (a .output .now) ok (omega arith))
 
 link-sent-requires-2 : tie.Need-link-sent-requires-2
 link-sent-requires-2 c κs = search needs
@@ -85,7 +85,7 @@ returns-3 c =
     let a = s .args in
     let n = c .before .before .before .before .before .before .before .before .before .before .before .shared-number in
     let e = fill-number (a .l) (a .output .now) (n .result) (n .ensures) in
-    let typed = array-of-octets 2 (a .l .transmitter .last) _ (s .good .0 .1 .1 .1 .1 .1 .1 .1 .1 .1 .1 .1 .0 .1 .1 .1 .1 .1 .1 .0) in
+    let typed = array-of-octets 2 (a .l .transmitter .last) _ (s .good .0 .1 .1 .1 .1 .1 .1 .1 .0 .1 .1 .1 .1 .1 .1 .0) in
     let p = c .before .before .before .put-out in
     fill-done (a .l) (a .output .now) (n .result) e (p .result) (p .last .0) (c .link-sent2 .result) (c .before .before .before .before .before .before .before .before .before .before .if1 .left) (not-false _ (c .before .before .before .before .before .before .if2 .left))
     (subst (λ (content : List ℕ). Puts (a .output .now) (sender (a .l .transmitter)) (unitOut (a .l .transmitter) content) 0 (p .result) (p .last .0))

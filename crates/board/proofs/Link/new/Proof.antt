@@ -10,11 +10,11 @@ no-settings-requires c κs = search needs
 new-line-requires : tie.Need-new-line-requires
 new-line-requires c κs = search needs
 
-off-requires : tie.Need-off-requires
-off-requires c κs = search needs
+new-units-requires : tie.Need-new-units-requires
+new-units-requires c κs = search needs
 
-empty-requires : tie.Need-empty-requires
-empty-requires c κs = search needs
+new-supervision-requires : tie.Need-new-supervision-requires
+new-supervision-requires c κs = search needs
 
 new-transmitter-requires : tie.Need-new-transmitter-requires
 new-transmitter-requires c κs = search needs
@@ -28,12 +28,8 @@ returns c =
       opened = false;
       settings = l .before .no-settings .ensures i;
       line = l .new-line .ensures i;
-      counting = record { on = false; left = 0 };
-      monitor = o .off .ensures i;
-      memory = e .empty .ensures i;
-      slots = record { next = 0 };
-      counts = record { good = 0; over = 0; dropped = 0; lost = 0 };
-      events = 0;
+      units = o .new-units .ensures i;
+      supervision = e .new-supervision .ensures i;
       transmitter = c .new-transmitter .ensures i;
     }
 
@@ -43,7 +39,7 @@ new-spec =
     (tie.spec
     no-settings-requires
     new-line-requires
-    off-requires
-    empty-requires
+    new-units-requires
+    new-supervision-requires
     new-transmitter-requires
     returns)

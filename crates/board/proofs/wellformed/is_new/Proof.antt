@@ -23,8 +23,8 @@ returns c =
     let l = n .before .before .before .before .before .before .before .before .before .args .link in
     λ i.
     ((((((((((n .numbers-zero .ensures i && d .before .arrays-zero .ensures i) && eqb (l .line .state .run) 7) && l .line .state .hunting)
-    && d .is-off .ensures i) && not (l .settings .filter)) && not (l .settings .itu)) && not (l .settings .orn)) && not (l .counting .on))
-    && not (l .memory .alike)) && not (l .transmitter .flagged)) && not (l .transmitter .sent)
+    && d .is-off .ensures i) && not (l .settings .filter)) && not (l .settings .itu)) && not (l .settings .orn)) && not (l .units .counting .on))
+    && not (l .units .memory .alike)) && not (l .transmitter .flagged)) && not (l .transmitter .sent)
 
 pub is-new-spec : {M : Type 1} → statement M
 is-new-spec =

@@ -26,8 +26,8 @@ returns c =
     ∙ λ i.
     zeros
     (l .settings .k ∷ l .settings .m ∷ l .settings .n ∷ l .settings .t ∷ l .settings .d ∷ l .settings .a ∷ l .line .state .bits
-    ∷ l .counting .left ∷ l .monitor .count ∷ l .monitor .number ∷ l .memory .length ∷ l .slots .next ∷ l .counts .good ∷ l .counts .over
-    ∷ l .counts .dropped ∷ l .counts .lost ∷ l .events ∷ w .before .wide .ensures i ∷ w .wide2 .ensures i ∷ [])
+    ∷ l .units .counting .left ∷ l .supervision .monitor .count ∷ l .supervision .monitor .number ∷ l .units .memory .length ∷ l .units .slots .next ∷ l .units .counts .good ∷ l .units .counts .over
+    ∷ l .units .counts .dropped ∷ l .units .counts .lost ∷ l .supervision .events ∷ w .before .wide .ensures i ∷ w .wide2 .ensures i ∷ [])
 
 pub numbers-zero-spec : {M : Type 1} → statement M
 numbers-zero-spec =

@@ -1,4 +1,4 @@
--- `board::wellformed::out_of_order` meets its contract: each part's test is the definition's.
+-- `board::wellformed::open_malformed` meets its contract: each part's test is the definition's.
 use mathlib.Core.Bool.{not, _||_}
 use borrow.Author.Needs.{needs}
 use lib.Dec.{leb}
@@ -39,7 +39,7 @@ returns c =
     let k = z .before .before .before .before .before .args .link in
     λ i.
     (((((not (z .zero-past .ensures i) || not (r .in-range .ensures i)) || l .line-out .ensures i) || n .counter-out .ensures i)
-    || m .monitor-out .ensures i) || leb (k .settings .k) (k .slots .next)) || t .transmitter-out .ensures i
+    || m .monitor-out .ensures i) || leb (k .settings .k) (k .units .slots .next)) || t .transmitter-out .ensures i
 
 pub open-malformed-spec : {M : Type 1} → statement M
 open-malformed-spec =

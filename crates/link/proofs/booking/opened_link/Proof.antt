@@ -7,7 +7,7 @@ new-requires : tie.Need-new-requires
 new-requires c κs = search needs
 
 returns : tie.Need-returns
-returns c = rw (c .new .ensures)
+returns c = rw (c .before .new .ensures)
 
 pub opened-link-spec : {M : Type 1} → statement M
 opened-link-spec = tie.close (tie.spec new-requires returns)

@@ -7,6 +7,12 @@ use Rattle.link.proofs.commands.command_number.Tie as tie
 is-malformed-requires : tie.Need-is-malformed-requires
 is-malformed-requires c κs = search needs
 
+command-of-requires : tie.Need-command-of-requires
+command-of-requires c κs = search needs
+
+is-unknown-requires : tie.Need-is-unknown-requires
+is-unknown-requires c κs = search needs
+
 refuse-requires : tie.Need-refuse-requires
 refuse-requires c κs = search needs
 
@@ -18,9 +24,19 @@ refuse-requires-3 c κs = search needs
 
 returns : tie.Need-returns
 unfolding commandNumber first
-returns c = rw (c .refuse3 .ensures, c .before .refuse2 .ensures, c .before .before .before .refuse .ensures, c .before .before .before .before .is-malformed .ensures)
+returns c =
+    let e = c .before .before in
+    let u = e .before in
+    rw (c .refuse3 .ensures, c .before .refuse2 .ensures, e .before .refuse .ensures, u .before .is-unknown .ensures, u .before .before .command-of .ensures, u .before .before .before .is-malformed .ensures)
 
 pub command-number-spec : {M : Type 1} → statement M
 command-number-spec =
     tie.close
-    (tie.spec is-malformed-requires refuse-requires refuse-requires-2 refuse-requires-3 returns)
+    (tie.spec
+    is-malformed-requires
+    command-of-requires
+    is-unknown-requires
+    refuse-requires
+    refuse-requires-2
+    refuse-requires-3
+    returns)
