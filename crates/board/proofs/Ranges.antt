@@ -6,11 +6,12 @@ use mathlib.Core.List.{List, [], _∷_}
 use native.Mathlib.Omega.{arith}
 use lib.Dec.{leb, ltb}
 use borrow.Author.Tests.{leb-true, leb-false, ltb-true, ltb-false, not-true, not-false}
+use Rattle.bits.specs.Format.{basic}
 use Rattle.monitor.specs.declared.Mode.{Mode}
 use Rattle.monitor.specs.declared.Mode.the-variants.{Off, Failure, Alignment, Idle}
 use Rattle.board.specs.declared.Settings.{Settings}
 use Rattle.board.specs.declared.Link.{Link}
-use Rattle.board.specs.Malformed.{zeroPast, inRange, lineOut, counterOut, countOut, monitorOut, transmitterOut, openMalformed, isNew, malformed}
+use Rattle.board.specs.Malformed.{zeroPast, within, inRange, lineOut, counterOut, countOut, monitorOut, transmitterOut, openMalformed, isNew, malformed}
 
 pub when-open : (l : Link) → l .opened ≡ true → malformed l ≡ openMalformed l
 unfolding malformed
@@ -38,27 +39,25 @@ pub record Ranges (s : Settings) : Type 0 where
   pub d : (1 ≤ s .d) × (s .d ≤ 1024)
   pub a : (1 ≤ s .a) × (s .a ≤ 1024)
 
-pub ranges : (s : Settings) → inRange s ≡ true → Ranges s
+-- a number within a range
+within-range : (least most n : ℕ) → within least most n ≡ true → (least ≤ n) × (n ≤ most)
+within-range least most n e = let p = both _ _ e in (leb-true least n (p .0), leb-true n most (p .1))
+
+pub ranges : (s : Settings) → inRange basic s ≡ true → Ranges s
 unfolding inRange
 ranges s e =
-    let e11 = both _ _ e in
-    let e10 = both _ _ (e11 .0) in
-    let e9 = both _ _ (e10 .0) in
-    let e8 = both _ _ (e9 .0) in
-    let e7 = both _ _ (e8 .0) in
-    let e6 = both _ _ (e7 .0) in
-    let e5 = both _ _ (e6 .0) in
-    let e4 = both _ _ (e5 .0) in
-    let e3 = both _ _ (e4 .0) in
-    let e2 = both _ _ (e3 .0) in
-    let e1 = both _ _ (e2 .0) in
+    let a = both _ _ e in
+    let d = both _ _ (a .0) in
+    let t = both _ _ (d .0) in
+    let n = both _ _ (t .0) in
+    let m = both _ _ (n .0) in
     record {
-      k = (leb-true 1 (s .k) (e1 .0), leb-true (s .k) 16 (e1 .1));
-      m = (leb-true 7 (s .m) (e2 .1), leb-true (s .m) 278 (e3 .1));
-      n = (leb-true 1 (s .n) (e4 .1), leb-true (s .n) 1024 (e5 .1));
-      t = (leb-true 1 (s .t) (e6 .1), leb-true (s .t) 1024 (e7 .1));
-      d = (leb-true 1 (s .d) (e8 .1), leb-true (s .d) 1024 (e9 .1));
-      a = (leb-true 1 (s .a) (e10 .1), leb-true (s .a) 1024 (e11 .1));
+      k = within-range _ _ (s .k) (m .0);
+      m = within-range _ _ (s .m) (m .1);
+      n = within-range _ _ (s .n) (n .1);
+      t = within-range _ _ (s .t) (t .1);
+      d = within-range _ _ (s .d) (d .1);
+      a = within-range _ _ (s .a) (a .1);
     }
 
 -- ---- an open link that is not malformed

@@ -1,6 +1,8 @@
 -- The link as a value.
 pub mod Link
 pub mod Rows
+pub mod Limits
+pub mod Events
 pub mod Malformed
 pub mod With
 pub mod Promises

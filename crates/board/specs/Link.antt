@@ -3,6 +3,7 @@ use Prim.Native.Nat.{ℕ}
 use mathlib.Core.Bool.{Bool, true, false}
 use mathlib.Core.List.{List, [], _∷_}
 use lib.ListN.{replicate}
+use Rattle.bits.specs.Format.{basic}
 use Rattle.monitor.specs.declared.Mode.the-variants.{Off}
 use Rattle.monitor.specs.Monitor.{started}
 use Rattle.filter.specs.Memory.{emptyMemory}
@@ -29,7 +30,7 @@ abbrev pub newUnits : UnitState
 newUnits =
     record {
       counting = record { on = false; left = 0 };
-      memory = emptyMemory;
+      memory = emptyMemory basic;
       slots = record { next = 0 };
       counts = record { good = 0; over = 0; dropped = 0; lost = 0 };
     }

@@ -5,6 +5,7 @@ use mathlib.Core.List.{List, [], _∷_}
 use lib.Dec.{eqb, leb, ltb}
 use lib.ListN.{drop}
 use Rattle.bits.specs.Octets.{lineBits}
+use Rattle.bits.specs.Format.{Format, basic, leastLongest, mostLongest}
 use Rattle.memory.specs.Lent.{zeros}
 use Rattle.monitor.specs.declared.Mode.{Mode}
 use Rattle.monitor.specs.declared.Mode.the-variants.{Off, Failure, Alignment, Idle}
@@ -15,6 +16,7 @@ use Rattle.board.specs.declared.Settings.{Settings}
 use Rattle.board.specs.declared.Counting.{Counting}
 use Rattle.board.specs.declared.Transmitter.{Transmitter}
 use Rattle.board.specs.declared.Link.{Link}
+use Rattle.board.specs.Limits.{mostSlots, mostCount}
 
 -- no bit is a one
 unfoldable pub noOnes : List Bool → Bool
@@ -25,11 +27,15 @@ noOnes (b ∷ bs) = not b && noOnes bs
 unfoldable pub zeroPast : ℕ → List ℕ → Bool
 zeroPast n octets = noOnes (drop n (lineBits octets))
 
+-- a number is one of a range
+abbrev pub within : ℕ → ℕ → ℕ → Bool
+within least most n = leb least n && leb n most
+
 -- "K 1 to 16; longest unit M 7 to 278 octets [..]; N, T, D, A each 1 to 1,024"
-unfoldable pub inRange : Settings → Bool
-inRange s =
-    ((((((((((leb 1 (s .k) && leb (s .k) 16) && leb 7 (s .m)) && leb (s .m) 278) && leb 1 (s .n)) && leb (s .n) 1024) && leb 1 (s .t)) && leb (s .t) 1024)
-    && leb 1 (s .d)) && leb (s .d) 1024) && leb 1 (s .a)) && leb (s .a) 1024
+unfoldable pub inRange : Format → Settings → Bool
+inRange F s =
+    ((((within 1 mostSlots (s .k) && within (leastLongest F) (mostLongest F) (s .m)) && within 1 mostCount (s .n)) && within 1 mostCount (s .t))
+    && within 1 mostCount (s .d)) && within 1 mostCount (s .a)
 
 -- "run above 7; gathered bits above 8M + 7, or any while hunting"
 unfoldable pub lineOut : ℕ → Line → Bool
@@ -43,8 +49,8 @@ counterOut n c = ltb (c .left) 1 || ltb n (c .left)
 abbrev pub countOut : Mode → Settings → ℕ → Bool
 countOut Failure s count = leb (s .t) count
 countOut Alignment s count = leb (s .a) count
-countOut Idle s count = ltb 1024 count
-countOut Off s count = ltb 1024 count
+countOut Idle s count = ltb mostCount count
+countOut Off s count = ltb mostCount count
 
 -- "event number D or more", and the count
 unfoldable pub monitorOut : Settings → Monitor → Bool
@@ -57,7 +63,7 @@ transmitterOut t = (ltb 7 (t .count) || (not (t .flagged) && ltb 0 (t .count))) 
 -- an open link: "if its gathering area isn't zero past the gathered bits, or if a number is out of range: a setting; [..] next slot K or more; [..]"
 unfoldable pub openMalformed : Link → Bool
 openMalformed l =
-    (((((not (zeroPast (l .line .state .bits) (l .line .area)) || not (inRange (l .settings))) || lineOut (l .settings .m) (l .line .state))
+    (((((not (zeroPast (l .line .state .bits) (l .line .area)) || not (inRange basic (l .settings))) || lineOut (l .settings .m) (l .line .state))
     || counterOut (l .settings .n) (l .units .counting)) || monitorOut (l .settings) (l .supervision .monitor)) || leb (l .settings .k) (l .units .slots .next))
     || transmitterOut (l .transmitter)
 

@@ -3,6 +3,8 @@ use filter::Memory;
 use framing::Line;
 use monitor::Monitor;
 
+pub mod events;
+pub mod limits;
 pub mod rows;
 pub mod wellformed;
 
@@ -89,7 +91,7 @@ pub struct Link {
 
 impl Link {
     // Octets of a slot.
-    pub const SLOT: usize = 280;
+    pub const SLOT: usize = memory::SLOT;
     // Most slots; shortest and longest M; the most that N, T, D and A can be; least is 1 for K, N, T, D and A.
     pub const MOST_SLOTS: u16 = 16;
 
@@ -103,7 +105,7 @@ impl Link {
 
     pub const RECORD: usize = 16;
 
-    pub const RECORDS: usize = 48;
+    pub const RECORDS: usize = 3 * Link::RECORD;
     // Least octets of an output area, shortest and longest content.
     pub const OUTPUT: usize = 336;
 
@@ -111,7 +113,7 @@ impl Link {
 
     pub const MOST_CONTENT: usize = 276;
     // A descriptor's status.
-    pub const STATUS_EMPTY: u16 = 32768;
+    pub const STATUS_EMPTY: u16 = memory::STATUS_EMPTY;
 
     pub const STATUS_GOOD: u16 = 0;
 

@@ -12,8 +12,9 @@ ghost use mathlib.Core.Path.{_≡_};
 ghost use mathlib.Core.Bool.{Bool, true, false, not, _&&_, _||_};
 ghost use Prim.Native.Nat.{ℕ, _-_};
 ghost use lib.ListN.{length, drop};
+ghost use Rattle.bits.specs.Format.{basic};
 ghost use Rattle.bits.specs.Octets.{bitsOf};
-ghost use Rattle.board.specs.Malformed.{zeroPast, noOnes, inRange, lineOut, counterOut, countOut, monitorOut, transmitterOut, openMalformed, isOff, numbers, isNew, malformed};
+ghost use Rattle.board.specs.Malformed.{zeroPast, noOnes, within, inRange, lineOut, counterOut, countOut, monitorOut, transmitterOut, openMalformed, isOff, numbers, isNew, malformed};
 ghost use Rattle.memory.specs.Lent.{zeros};
 
 // Whether an octet is zero from a bit on, lowest bit first.
@@ -49,22 +50,23 @@ fn zero_past(octets: &[u8], bits: u16) -> bool
     true
 }
 
+// Whether a number is one of a range.
+fn within(least: u16, most: u16, n: u16) -> bool
+    ensures { λ r. ⌜ r ≡ within least most n ⌝ }
+{
+    (least <= n) & (n <= most)
+}
+
 // Whether every setting is in range.
 pub fn in_range(s: Settings) -> bool
-    ensures { λ r. ⌜ r ≡ inRange s ⌝ }
+    ensures { λ r. ⌜ r ≡ inRange basic s ⌝ }
 {
-    (1 <= s.k)
-        & (s.k <= 16)
-        & (7 <= s.m)
-        & (s.m <= 278)
-        & (1 <= s.n)
-        & (s.n <= 1024)
-        & (1 <= s.t)
-        & (s.t <= 1024)
-        & (1 <= s.d)
-        & (s.d <= 1024)
-        & (1 <= s.a)
-        & (s.a <= 1024)
+    within(1, Link::MOST_SLOTS, s.k)
+        & within(Link::LEAST_LONGEST, Link::MOST_LONGEST, s.m)
+        & within(1, Link::MOST_COUNT, s.n)
+        & within(1, Link::MOST_COUNT, s.t)
+        & within(1, Link::MOST_COUNT, s.d)
+        & within(1, Link::MOST_COUNT, s.a)
 }
 
 // Whether the receiver's numbers are out of range.
@@ -98,8 +100,8 @@ fn count_out(mode: Mode, s: Settings, count: u16) -> bool
     match mode {
         Mode::Failure => s.t <= count,
         Mode::Alignment => s.a <= count,
-        Mode::Idle => 1024 < count,
-        Mode::Off => 1024 < count,
+        Mode::Idle => Link::MOST_COUNT < count,
+        Mode::Off => Link::MOST_COUNT < count,
     }
 }
 

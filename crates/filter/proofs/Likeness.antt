@@ -35,8 +35,8 @@ masked-take [] u = refl
 masked-take (m ∷ ms) [] = refl
 masked-take (m ∷ ms) (x ∷ u) = ap {B = List ℕ} (λ l. bitAnd x m ∷ l) (masked-take ms u)
 
-pub masked-five : (mask u : List ℕ) → length mask ≡ 5 → masked mask u ≡ masked mask (take 5 u)
-masked-five mask u h = masked-take mask u ∙ ap (λ (n : ℕ). masked mask (take n u)) h
+pub masked-first : (n : ℕ) (mask u : List ℕ) → length mask ≡ n → masked mask u ≡ masked mask (take n u)
+masked-first n mask u h = masked-take mask u ∙ ap (λ (k : ℕ). masked mask (take k u)) h
 
 -- ---- the same octets
 pub same-equal : (xs ys : List ℕ) → same xs ys ≡ true → xs ≡ ys

@@ -3,7 +3,8 @@ use Prim.Native.Nat.{ℕ}
 use mathlib.Core.Bool.{Bool, true, false, _&&_, cond}
 use mathlib.Core.List.{List, [], _∷_}
 use lib.Dec.{eqb}
-use lib.ListN.{length}
+use lib.ListN.{length, replicate}
+use Rattle.bits.specs.Format.{Format, fillInOctets}
 use Rattle.bits.specs.Machine.{run, outs}
 use Rattle.filter.specs.declared.Kind.{Kind}
 use Rattle.filter.specs.declared.Kind.the-variants.{FillIn, LinkStatus, Message}
@@ -12,10 +13,6 @@ use Rattle.filter.specs.declared.Fate.the-variants.{HandedOver, Dropped,
 use Rattle.filter.specs.declared.Memory.{Memory}
 use Rattle.filter.specs.declared.Settled.{Settled}
 use Rattle.filter.specs.Unit.{kindOf, masked, same}
-
--- "opening empt[ies] the memory"
-abbrev pub emptyMemory : Memory
-emptyMemory = record { length = 0; octets = 0 ∷ 0 ∷ 0 ∷ 0 ∷ 0 ∷ []; alike = false }
 
 -- the memory holds a unit like this one
 abbrev pub holdsLike : List ℕ → Memory → List ℕ → Bool
@@ -27,44 +24,49 @@ repeats FillIn like before = like
 repeats LinkStatus like before = like && before
 repeats Message like before = false
 
--- "With the filter on"
-abbrev pub drops : Bool → List ℕ → Memory → List ℕ → Bool
-drops on mask m u = on && repeats (kindOf u) (holdsLike mask m u) (m .alike)
-
-abbrev pub forgets : Kind → Memory → Memory
-forgets FillIn m = m
-forgets LinkStatus m = m
-forgets Message m = emptyMemory
-
--- "Otherwise it goes to a slot, and the memory holds its length, its masked octets and whether the unit before was alike.
--- With the filter off the memory stays empty. A message unit [empties] the memory."
-abbrev pub remembers : Bool → List ℕ → Memory → List ℕ → Memory
-remembers on mask m u =
-    cond on (forgets (kindOf u) (record { length = length u; octets = masked mask u; alike = holdsLike mask m u })) emptyMemory
-
--- What becomes of a good unit whose next slot is free or not: dropped, and the memory is left as it is; or handed over and
--- remembered; or lost, and "a lost good unit [empties] the memory".
-unfoldable pub settled : Bool → List ℕ → Memory → List ℕ → Bool → Settled
-settled on mask m u free =
-    cond (drops on mask m u) (record { fate = Dropped; memory = m })
-    (cond free (record { fate = HandedOver; memory = remembers on mask m u }) (record { fate = Lost; memory = emptyMemory }))
-
--- What the filteris given from opening on: a good unit with whether its slot was free, and command 4. Units with errors are set aside.
+-- What the filter is given from opening on: a good unit with whether its slot was free, and command 4. Units with errors are set aside.
 pub data FilterInput : Type 0 where
   good : List ℕ → Bool → FilterInput
   command-4 : FilterInput
 
-abbrev pub memoryNext : Bool → List ℕ → Memory → FilterInput → Memory
-memoryNext on mask m (good u free) = settled on mask m u free .memory
-memoryNext on mask m command-4 = emptyMemory
+module _ (F : Format) where
+  -- "opening empt[ies] the memory"
+  abbrev pub emptyMemory : Memory
+  emptyMemory = record { length = 0; octets = replicate (fillInOctets F) 0; alike = false }
 
-abbrev pub fateOf : Bool → List ℕ → Memory → FilterInput → List Fate
-fateOf on mask m (good u free) = settled on mask m u free .fate ∷ []
-fateOf on mask m command-4 = []
+  -- "With the filter on"
+  abbrev pub drops : Bool → List ℕ → Memory → List ℕ → Bool
+  drops on mask m u = on && repeats (kindOf F u) (holdsLike mask m u) (m .alike)
 
--- the memory after a history, oldest first, and the fates of its good units
-unfoldable pub memoryAfter : Bool → List ℕ → List FilterInput → Memory
-memoryAfter on mask = run (memoryNext on mask) emptyMemory
+  abbrev pub forgets : Kind → Memory → Memory
+  forgets FillIn m = m
+  forgets LinkStatus m = m
+  forgets Message m = emptyMemory
 
-unfoldable pub fates : Bool → List ℕ → List FilterInput → List Fate
-fates on mask = outs (memoryNext on mask) (fateOf on mask) emptyMemory
+  -- "Otherwise it goes to a slot, and the memory holds its length, its masked octets and whether the unit before was alike.
+  -- With the filter off the memory stays empty. A message unit [empties] the memory."
+  abbrev pub remembers : Bool → List ℕ → Memory → List ℕ → Memory
+  remembers on mask m u =
+      cond on (forgets (kindOf F u) (record { length = length u; octets = masked mask u; alike = holdsLike mask m u })) emptyMemory
+
+  -- What becomes of a good unit whose next slot is free or not: dropped, and the memory is left as it is; or handed over and
+  -- remembered; or lost, and "a lost good unit [empties] the memory".
+  unfoldable pub settled : Bool → List ℕ → Memory → List ℕ → Bool → Settled
+  settled on mask m u free =
+      cond (drops on mask m u) (record { fate = Dropped; memory = m })
+      (cond free (record { fate = HandedOver; memory = remembers on mask m u }) (record { fate = Lost; memory = emptyMemory }))
+
+  abbrev pub memoryNext : Bool → List ℕ → Memory → FilterInput → Memory
+  memoryNext on mask m (good u free) = settled on mask m u free .memory
+  memoryNext on mask m command-4 = emptyMemory
+
+  abbrev pub fateOf : Bool → List ℕ → Memory → FilterInput → List Fate
+  fateOf on mask m (good u free) = settled on mask m u free .fate ∷ []
+  fateOf on mask m command-4 = []
+
+  -- the memory after a history, oldest first, and the fates of its good units
+  unfoldable pub memoryAfter : Bool → List ℕ → List FilterInput → Memory
+  memoryAfter on mask = run (memoryNext on mask) emptyMemory
+
+  unfoldable pub fates : Bool → List ℕ → List FilterInput → List Fate
+  fates on mask = outs (memoryNext on mask) (fateOf on mask) emptyMemory

@@ -5,12 +5,15 @@ use mathlib.Core.List.{List, [], _∷_}
 use lib.Bits.{bitAnd}
 use lib.Dec.{eqb}
 use lib.ListN.{length}
+use Rattle.bits.specs.Format.{Format, fillInOctets, statusOctets, longStatusOctets}
 use Rattle.filter.specs.declared.Kind.{Kind}
 use Rattle.filter.specs.declared.Kind.the-variants.{FillIn, LinkStatus, Message}
 
 -- "The kind comes from length: 5 octets is fill-in, 6 or 7 link status, more is message."
-unfoldable pub kindOf : List ℕ → Kind
-kindOf u = cond (eqb (length u) 5) FillIn (cond (eqb (length u) 6 || eqb (length u) 7) LinkStatus Message)
+unfoldable pub kindOf : Format → List ℕ → Kind
+kindOf F u =
+    cond (eqb (length u) (fillInOctets F)) FillIn
+    (cond (eqb (length u) (statusOctets F) || eqb (length u) (longStatusOctets F)) LinkStatus Message)
 
 -- the first octets of a unit under a mask, as many as the mask has
 unfoldable pub masked : List ℕ → List ℕ → List ℕ

@@ -2,9 +2,10 @@
 ghost use mathlib.Core.Path.{_≡_};
 ghost use mathlib.Core.Bool.{_&&_, cond};
 ghost use mathlib.Core.List.{List};
-ghost use Prim.Native.Nat.{ℕ};
+ghost use Prim.Native.Nat.{ℕ, _≤_};
 ghost use lib.Dec.{eqb};
 ghost use lib.ListN.{length, take};
+ghost use Rattle.bits.specs.Format.{basic, fillInOctets};
 ghost use Rattle.filter.specs.Unit.{kindOf, masked, same};
 ghost use Rattle.filter.specs.Memory.{emptyMemory, repeats, forgets, settled};
 
@@ -15,7 +16,7 @@ pub enum Kind {
     Message,
 }
 
-// The last good unit that went to a slot: its length, its first five octets under the mask, and whether the unit before
+// The last good unit that went to a slot: its length, its first octets under the mask, and whether the unit before
 // it was like it. Length 0 is the empty memory.
 #[repr(C)]
 pub struct Memory {
@@ -39,7 +40,7 @@ pub struct Settled {
 impl Memory {
     // The memory that holds no unit.
     pub fn empty() -> Self
-        ensures { λ r. ⌜ r ≡ emptyMemory ⌝ }
+        ensures { λ r. ⌜ r ≡ emptyMemory basic ⌝ }
     {
         Self {
             length: 0,
@@ -51,7 +52,7 @@ impl Memory {
 
 // The kind of a unit of so many octets, check octets included.
 pub fn kind_of(octets: u16) -> Kind
-    ensures { λ r. ⌜ ((u : List ℕ) → length u ≡ octets → r ≡ kindOf u) ⌝ }
+    ensures { λ r. ⌜ ((u : List ℕ) → length u ≡ octets → r ≡ kindOf basic u) ⌝ }
 {
     if octets == 5 {
         return Kind::FillIn;
@@ -111,7 +112,7 @@ fn is_dropped(on: bool, kind: Kind, like: bool, before: bool) -> bool
 
 // What is remembered of a unit that goes to a slot: itself, unless it is a message or the filter is off.
 fn remembered(on: bool, kind: Kind, unit: Memory) -> Memory
-    ensures { λ r. ⌜ r ≡ cond on (forgets kind unit) emptyMemory ⌝ }
+    ensures { λ r. ⌜ r ≡ cond on (forgets basic kind unit) (emptyMemory basic) ⌝ }
 {
     if on {
         match kind {
@@ -132,7 +133,8 @@ pub fn settle(
     first: [u8; 5],
     free: bool,
 ) -> Settled
-    ensures { λ r. ⌜ ((u : List ℕ) → length u ≡ octets → take 5 u ≡ first → r ≡ settled on mask memory u free) ⌝ }
+    requires { ⌜ fillInOctets basic ≤ octets ⌝ }
+    ensures { λ r. ⌜ ((u : List ℕ) → length u ≡ octets → take (fillInOctets basic) u ≡ first → r ≡ settled basic on mask memory u free) ⌝ }
 {
     let kind = kind_of(octets);
     let five = masked_unit(first, mask);

@@ -5,6 +5,9 @@ use mathlib.Core.Bool.{Bool, true, false}
 use mathlib.Core.List.{List, [], _∷_, _++_, map}
 use native.Mathlib.Omega.{arith}
 use lib.ListN.{length, take}
+use Rattle.board.specs.Events.{eventBit}
+use Rattle.records.specs.declared.RecordKind.the-variants as kinds
+use Rattle.board.specs.declared.events.Event.the-variants as events
 use Rattle.bits.specs.Octets.{lineBits, packed}
 use Rattle.framing.specs.declared.Found.{Found}
 use Rattle.framing.specs.declared.Found.the-variants.{Nothing, Closed, Abort, Long}
@@ -79,12 +82,12 @@ module _ (s : Settings) (p : Progress) (f : Found) (area pool descriptors out : 
         one-way (closed (unitIn fs)) fs (c .0)
         (d ∙ ap (closedUnit s (unitMemory (p .units) pool descriptors)) (ap (λ (k : ℕ). take k (lineBits area)) (sym (c .1)) ∙ w .unit))
 
-    pub abort-way : f ≡ Abort → effect (unitMemory (taken .units) pool′ descriptors′) (taken .happening ∷ []) ≡ broken s (unitMemory (p .units) pool descriptors) 7 32
+    pub abort-way : f ≡ Abort → effect (unitMemory (taken .units) pool′ descriptors′) (taken .happening ∷ []) ≡ broken s (unitMemory (p .units) pool descriptors) kinds.Abort (eventBit events.Abort)
         → Done r pool′ descriptors′ out′
     unfolding effectOf
     abort-way e d fs w = one-way abort fs (is-abort fs (sym e ∙ w .is) (w .single)) d
 
-    pub long-way : f ≡ Long → effect (unitMemory (taken .units) pool′ descriptors′) (taken .happening ∷ []) ≡ broken s (unitMemory (p .units) pool descriptors) 6 64
+    pub long-way : f ≡ Long → effect (unitMemory (taken .units) pool′ descriptors′) (taken .happening ∷ []) ≡ broken s (unitMemory (p .units) pool descriptors) kinds.Long (eventBit events.Long)
         → Done r pool′ descriptors′ out′
     unfolding effectOf
     long-way e d fs w = one-way long fs (is-long fs (sym e ∙ w .is) (w .single)) d

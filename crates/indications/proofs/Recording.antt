@@ -7,6 +7,7 @@ use native.Mathlib.Nat.{add-zero}
 use native.Mathlib.Omega.{arith}
 use lib.ListN.{length, length-append}
 use lib.Seq.{sets, length-sets}
+use Rattle.board.specs.Limits.{recordOctets, monitorLimits}
 use Rattle.records.specs.declared.Happening.{Happening}
 use Rattle.board.specs.declared.Supervision.{Supervision}
 use Rattle.records.specs.declared.Noted.{Noted}
@@ -24,16 +25,16 @@ use Rattle.units.proofs.UnitStates.{unit-memory-append, happenings-append}
 use Rattle.monitor.specs.declared.Limits.{Limits}
 use Rattle.units.specs.Units.{UnitMemory, unitMemory, Effect, effect, effectOf, nextUnitMemory, happens, unitMemoryAfter, happenings}
 use Rattle.indications.specs.declared.Progress.{Progress}
-use Rattle.indications.specs.Writing.{monitorLimits, Written, holding, indicationsDone, NotedAndRecorded}
+use Rattle.indications.specs.Writing.{Written, holding, indicationsDone, NotedAndRecorded}
 
 -- ---- one happening
 pub note-and-record-way : (s : Settings) (taken : Taken) (w : Supervision) (count : ℕ) (out : List ℕ) (n : Noted) (out′ : List ℕ)
-    → n ≡ noted (monitorLimits s) w (taken .happening) → out′ ≡ sets out (16 * count) (recordOf (taken .happening) (n .supervision .monitor .count) (n .raised))
+    → n ≡ noted (monitorLimits s) w (taken .happening) → out′ ≡ sets out (recordOctets * count) (recordOf (taken .happening) (n .supervision .monitor .count) (n .raised))
     → NotedAndRecorded s taken w count out (record { units = taken .units; supervision = n .supervision; count = count + 1 }) out′
 note-and-record-way s taken w count out n out′ en eo =
     record {
       progress = ap {B = Progress} (λ (x : Noted). record { units = taken .units; supervision = x .supervision; count = count + 1 }) en;
-      area = eo ∙ ap (λ (x : Noted). sets out (16 * count) (recordOf (taken .happening) (x .supervision .monitor .count) (x .raised))) en;
+      area = eo ∙ ap (λ (x : Noted). sets out (recordOctets * count) (recordOf (taken .happening) (x .supervision .monitor .count) (x .raised))) en;
     }
 
 single-supervision : (l : Limits) (w : Supervision) (h : Happening) → supervisionAfter l w (h ∷ []) ≡ supervised l w h
@@ -67,22 +68,22 @@ module _ (s : Settings) (w : Written) where
           record {
             unitMemory = x .unitMemory;
             supervision = supervisionAfter l (w .supervision) (x .happenings ++ []);
-            out = sets (w .out) (16 * w .count) (recordsOf l (w .supervision) (x .happenings ++ []));
+            out = sets (w .out) (recordOctets * w .count) (recordsOf l (w .supervision) (x .happenings ++ []));
             count = w .count + length (x .happenings ++ []);
           }
 
       one : (h : Happening) (p : Progress) → p ≡ record { units = taken .units; supervision = supervised l (w .supervision) h; count = w .count + 1 }
-          → (out′ : List ℕ) → out′ ≡ sets (w .out) (16 * w .count) (recorded l (w .supervision) h)
+          → (out′ : List ℕ) → out′ ≡ sets (w .out) (recordOctets * w .count) (recorded l (w .supervision) h)
           → holding p pool descriptors out′ ≡ whole (effect (unitMemory (taken .units) pool descriptors) (h ∷ []))
       one h p ep out′ eo =
           ap₂ (λ (x : Progress) (y : List ℕ). holding x pool descriptors y) ep
-          (eo ∙ ap (sets (w .out) (16 * w .count)) (sym (single-record l (w .supervision) h)))
+          (eo ∙ ap (sets (w .out) (recordOctets * w .count)) (sym (single-record l (w .supervision) h)))
           ∙ ap {B = Written}
           (λ (x : Supervision).
           record {
             unitMemory = unitMemory (taken .units) pool descriptors;
             supervision = x;
-            out = sets (w .out) (16 * w .count) (recordsOf l (w .supervision) (h ∷ []));
+            out = sets (w .out) (recordOctets * w .count) (recordsOf l (w .supervision) (h ∷ []));
             count = w .count + 1;
           })
           (sym (single-supervision l (w .supervision) h))
@@ -98,7 +99,7 @@ module _ (s : Settings) (w : Written) where
       record {
         unitMemory = x .unitMemory;
         supervision = supervisionAfter (monitorLimits s) (w .supervision) (x .happenings ++ []);
-        out = sets (w .out) (16 * w .count) (recordsOf (monitorLimits s) (w .supervision) (x .happenings ++ []));
+        out = sets (w .out) (recordOctets * w .count) (recordsOf (monitorLimits s) (w .supervision) (x .happenings ++ []));
         count = w .count + length (x .happenings ++ []);
       })
       e
@@ -118,7 +119,7 @@ module _ (s : Settings) (w : Written) where
           record {
             unitMemory = o;
             supervision = supervisionAfter l (w .supervision) hs;
-            out = sets (w .out) (16 * w .count) (recordsOf l (w .supervision) hs);
+            out = sets (w .out) (recordOctets * w .count) (recordsOf l (w .supervision) hs);
             count = w .count + length hs;
           }
 
@@ -127,16 +128,16 @@ module _ (s : Settings) (w : Written) where
           ≡ record {
             unitMemory = unitMemoryAfter s (unitMemoryAfter s (w .unitMemory) ms) ns;
             supervision = supervisionAfter l (supervisionAfter l (w .supervision) xs) ys;
-            out = sets (sets (w .out) (16 * w .count) (recordsOf l (w .supervision) xs)) (16 * (w .count + length xs)) (recordsOf l (supervisionAfter l (w .supervision) xs) ys);
+            out = sets (sets (w .out) (recordOctets * w .count) (recordsOf l (w .supervision) xs)) (recordOctets * (w .count + length xs)) (recordsOf l (supervisionAfter l (w .supervision) xs) ys);
             count = w .count + length xs + length ys;
           }
       parts xs ys g =
           let c : w .count + length (xs ++ ys) ≡ w .count + length xs + length ys = omega (arith, length-append xs ys) in
-          let k : 16 * w .count + length (recordsOf l (w .supervision) xs) ≡ 16 * (w .count + length xs) = omega (arith, records-length l (w .supervision) xs g) in
-          let o : sets (w .out) (16 * w .count) (recordsOf l (w .supervision) (xs ++ ys))
-          ≡ sets (sets (w .out) (16 * w .count) (recordsOf l (w .supervision) xs)) (16 * (w .count + length xs)) (recordsOf l (supervisionAfter l (w .supervision) xs) ys) =
-          ap (sets (w .out) (16 * w .count)) (records-append l (w .supervision) xs ys)
-          ∙ sets-append (recordsOf l (w .supervision) xs) (recordsOf l (supervisionAfter l (w .supervision) xs) ys) (w .out) (16 * w .count)
-          ∙ ap (λ (j : ℕ). sets (sets (w .out) (16 * w .count) (recordsOf l (w .supervision) xs)) j (recordsOf l (supervisionAfter l (w .supervision) xs) ys)) k in
+          let k : recordOctets * w .count + length (recordsOf l (w .supervision) xs) ≡ recordOctets * (w .count + length xs) = omega (arith, records-length l (w .supervision) xs g) in
+          let o : sets (w .out) (recordOctets * w .count) (recordsOf l (w .supervision) (xs ++ ys))
+          ≡ sets (sets (w .out) (recordOctets * w .count) (recordsOf l (w .supervision) xs)) (recordOctets * (w .count + length xs)) (recordsOf l (supervisionAfter l (w .supervision) xs) ys) =
+          ap (sets (w .out) (recordOctets * w .count)) (records-append l (w .supervision) xs ys)
+          ∙ sets-append (recordsOf l (w .supervision) xs) (recordsOf l (supervisionAfter l (w .supervision) xs) ys) (w .out) (recordOctets * w .count)
+          ∙ ap (λ (j : ℕ). sets (sets (w .out) (recordOctets * w .count) (recordsOf l (w .supervision) xs)) j (recordsOf l (supervisionAfter l (w .supervision) xs) ys)) k in
           let v : supervisionAfter l (w .supervision) (xs ++ ys) ≡ supervisionAfter l (supervisionAfter l (w .supervision) xs) ys = supervision-append l (w .supervision) xs ys in
           λ i. record { unitMemory = unitMemoryAfter s (unitMemoryAfter s (w .unitMemory) ms) ns; supervision = v i; out = o i; count = c i }

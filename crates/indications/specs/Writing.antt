@@ -4,6 +4,7 @@ use mathlib.Core.Path.{_≡_}
 use mathlib.Core.List.{List, []}
 use lib.ListN.{length, take}
 use lib.Seq.{sets}
+use Rattle.board.specs.Limits.{recordOctets, monitorLimits}
 use Rattle.monitor.specs.declared.Limits.{Limits}
 use Rattle.board.specs.declared.Supervision.{Supervision}
 use Rattle.records.specs.Promises.{LimitsInRange, MonitorInRange}
@@ -19,9 +20,6 @@ use Rattle.units.specs.Fit.{Fits}
 use Rattle.units.specs.Indications.{Indication}
 use Rattle.units.specs.Units.{UnitMemory, unitMemory, unitMemoryAfter, happenings}
 use Rattle.indications.specs.declared.Progress.{Progress}
-
-abbrev pub monitorLimits : Settings → Limits
-monitorLimits s = record { t = s .t; d = s .d; a = s .a }
 
 pub record Written : Type 0 where
   pub unitMemory : UnitMemory
@@ -40,14 +38,14 @@ indicationsDone s w ms =
     record {
       unitMemory = unitMemoryAfter s (w .unitMemory) ms;
       supervision = supervisionAfter (monitorLimits s) (w .supervision) hs;
-      out = sets (w .out) (16 * w .count) (recordsOf (monitorLimits s) (w .supervision) hs);
+      out = sets (w .out) (recordOctets * w .count) (recordsOf (monitorLimits s) (w .supervision) hs);
       count = w .count + length hs;
     }
 
 -- one happening noted and recorded
 pub record NotedAndRecorded (s : Settings) (taken : Taken) (w : Supervision) (count : ℕ) (out : List ℕ) (r : Progress) (out′ : List ℕ) : Type 0 where
   pub progress : r ≡ record { units = taken .units; supervision = supervised (monitorLimits s) w (taken .happening); count = count + 1 }
-  pub area : out′ ≡ sets out (16 * count) (recorded (monitorLimits s) w (taken .happening))
+  pub area : out′ ≡ sets out (recordOctets * count) (recorded (monitorLimits s) w (taken .happening))
 
 -- what the code needs between two indications: limits and monitor in range, memory that fits, and room for one record
 pub record Able (s : Settings) (p : Progress) (pool descriptors out : List ℕ) : Type 0 where
@@ -55,7 +53,7 @@ pub record Able (s : Settings) (p : Progress) (pool descriptors out : List ℕ) 
   pub limits : LimitsInRange (monitorLimits s)
   pub monitor : MonitorInRange (monitorLimits s) (p .supervision .monitor)
   pub fits : Fits s (p .units) pool descriptors
-  pub room : 16 * p .count + 16 ≤ length out
+  pub room : recordOctets * p .count + recordOctets ≤ length out
 
 -- a closed unit stands in the area, with the seven bits of its flag behind it and zero past them
 abbrev pub StandsIn : Found → List ℕ → Type 0

@@ -1,20 +1,23 @@
 // One indication of the line, a finding or an octet's end: to the unit state, the monitor and the records.
 use board::Counting;
+use board::Link;
 use board::Settings;
 use board::Supervision;
 use board::UnitState;
 use framing::Found;
 use monitor::Limits;
+use records::RecordKind;
 use units::Taken;
 ghost use mathlib.Core.Path.{_≡_};
 ghost use mathlib.Core.List.{List, [], _∷_, map};
 ghost use Prim.Native.Nat.{ℕ, _+_, _*_, _≤_};
 ghost use lib.ListN.{length};
+ghost use Rattle.board.specs.Limits.{recordOctets, monitorLimits};
 ghost use Rattle.records.specs.Promises.{LimitsInRange, MonitorInRange};
 ghost use Rattle.framing.specs.Delimitation.{Finding};
 ghost use Rattle.units.specs.Indications.{Indication, octetEnd};
 ghost use Rattle.units.specs.Indications.{found as found-indication};
-ghost use Rattle.indications.specs.Writing.{monitorLimits, NotedAndRecorded, Able, StandsIn, Shown, areaAfter, holding, indicationsDone};
+ghost use Rattle.indications.specs.Writing.{NotedAndRecorded, Able, StandsIn, Shown, areaAfter, holding, indicationsDone};
 
 // Unit state, monitor and event bits, and how many records are written.
 pub struct Progress {
@@ -31,7 +34,7 @@ fn note_and_record(
     count: usize,
     out: &mut [u8],
 ) -> Progress
-    requires { ⌜ LimitsInRange (monitorLimits s) × (MonitorInRange (monitorLimits s) (supervision .monitor)) × (16 * count + 16 ≤ length (now out)) ⌝ }
+    requires { ⌜ LimitsInRange (monitorLimits s) × (MonitorInRange (monitorLimits s) (supervision .monitor)) × (recordOctets * count + recordOctets ≤ length (now out)) ⌝ }
     ensures { λ r. ⌜ NotedAndRecorded s taken supervision count (now (out .entry)) r (now (out .exit)) ⌝ }
 {
     let limits = Limits {
@@ -78,13 +81,13 @@ pub fn take_found(
         }
         Found::Abort => {
             let units = p.units;
-            let taken = units::break_off(s, units, 7, 32);
+            let taken = units::break_off(s, units, RecordKind::Abort, Link::EVENT_ABORT);
             let supervision = p.supervision;
             note_and_record(s, taken, supervision, p.count, &mut *out)
         }
         Found::Long => {
             let units = p.units;
-            let taken = units::break_off(s, units, 6, 64);
+            let taken = units::break_off(s, units, RecordKind::Long, Link::EVENT_LONG);
             let supervision = p.supervision;
             note_and_record(s, taken, supervision, p.count, &mut *out)
         }
@@ -93,7 +96,7 @@ pub fn take_found(
 
 // The end of a line octet: N's counter runs, and in octet counting it may tick.
 pub fn end_octet(s: Settings, p: Progress, out: &mut [u8]) -> Progress
-    requires { ⌜ LimitsInRange (monitorLimits s) × (MonitorInRange (monitorLimits s) (p .supervision .monitor)) × (16 * p .count + 16 ≤ length (now out)) × (1 ≤ p .units .counting .left) ⌝ }
+    requires { ⌜ LimitsInRange (monitorLimits s) × (MonitorInRange (monitorLimits s) (p .supervision .monitor)) × (recordOctets * p .count + recordOctets ≤ length (now out)) × (1 ≤ p .units .counting .left) ⌝ }
     ensures { λ r. ⌜ ((pool descriptors : List ℕ) → holding r pool descriptors (now (out .exit)) ≡ indicationsDone s (holding p pool descriptors (now (out .entry))) (octetEnd ∷ [])) ⌝ }
 {
     let d = p.units;

@@ -8,6 +8,7 @@ use lib.Dec.{eqb}
 use borrow.Author.Tests.{eqb-true, eqb-false}
 use lib.ListN.{length, take, drop}
 use lib.Seq.{sets, sets-eq, take-at}
+use Rattle.board.specs.Limits.{recordOctets}
 use Rattle.bits.specs.Octets.{lineBits, packed}
 use Rattle.bits.proofs.Packing.{unpack}
 use Rattle.framing.specs.Delimitation.{Receiver}
@@ -19,7 +20,7 @@ use Rattle.units.specs.Indications.{lineIndications}
 use Rattle.units.specs.Units.{happenings}
 use Rattle.units.specs.Promises.{Sums}
 use Rattle.reception.specs.Line.{Board, boardAfter, lineHappenings, lineRecords}
-use Rattle.reception.proofs.Cutting.{board-cut, records-cut, sixteen-each, three-each, sum-over-line}
+use Rattle.reception.proofs.Cutting.{board-cut, records-cut, records-size, three-each, sum-over-line}
 use Rattle.link.specs.Refusals.{rising, openNumber, commandNumber}
 use Rattle.input.specs.Refusals.{receiveFaults, receiveNumber}
 use Rattle.link.specs.declared.commands.CommandCode.{CommandCode}
@@ -59,10 +60,10 @@ pub wrote : (l : Link) (octets pool descriptors records : List ℕ) → Receivab
 wrote l octets pool descriptors records r =
     let b = boardOf l pool descriptors in
     let rs = lineRecords (l .settings) b octets in
-    let n : length rs ≡ 16 * length (lineHappenings (l .settings) b octets) = sixteen-each (l .settings) b octets in
+    let n : length rs ≡ recordOctets * length (lineHappenings (l .settings) b octets) = records-size (l .settings) b octets in
     let fit : 0 + length rs ≤ length records = omega (arith, n, three-each (l .settings) b octets (r .order .settings .m .0), r .room) in
-    ap (take (16 * length (lineHappenings (l .settings) b octets))) (sets-eq rs records 0 fit)
-    ∙ take-at rs (drop (0 + length rs) records) (16 * length (lineHappenings (l .settings) b octets)) n
+    ap (take (recordOctets * length (lineHappenings (l .settings) b octets))) (sets-eq rs records 0 fit)
+    ∙ take-at rs (drop (0 + length rs) records) (recordOctets * length (lineHappenings (l .settings) b octets)) n
 
 -- the link that holds a board gives that board back
 pub board-back : (l : Link) (b : Board) → length (b .receiver .gathered) ≤ 8 * 279 → boardOf (linkOf l b) (b .unitMemory .pool) (b .unitMemory .descriptors) ≡ b

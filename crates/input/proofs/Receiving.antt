@@ -8,6 +8,7 @@ use native.Mathlib.Omega.{arith}
 use lib.Dec.{leb, ltb}
 use lib.ListN.{length, take}
 use borrow.Author.Tests.{eqb-true, leb-false, ltb-true, ltb-false, lt-ltb, le-ltb, not-false}
+use Rattle.board.specs.Limits.{recordRoom, monitorLimits}
 use Rattle.bits.specs.Octets.{Octets, lineBits, packed}
 use Rattle.framing.specs.declared.Line.{Line}
 use Rattle.framing.specs.Delimitation.{Receiver}
@@ -25,7 +26,7 @@ use Rattle.board.proofs.Past.{past-holds}
 use Rattle.units.specs.Indications.{lineReceiver, lineIndications}
 use Rattle.indications.specs.declared.Progress.{Progress}
 use Rattle.reception.specs.declared.Passed.{Passed}
-use Rattle.indications.specs.Writing.{monitorLimits, Written, holding, indicationsDone}
+use Rattle.indications.specs.Writing.{Written, holding, indicationsDone}
 use Rattle.reception.specs.Line.{boardAfter, lineHappenings, lineRecords}
 use Rattle.reception.specs.Writing.{StateInRange, LineTaken}
 use Rattle.link.specs.Refusals.{fitsMemory}
@@ -36,12 +37,12 @@ use Rattle.link.proofs.Faults.{none}
 use Rattle.link.proofs.Answers.{done, refused}
 
 -- room for 48 octets each, with no product
-pub room-for : (room octets : ℕ) → ltb (room / 48) octets ≡ ltb room (48 * octets)
+pub room-for : (room octets : ℕ) → ltb (room / 48) octets ≡ ltb room (recordRoom * octets)
 room-for room octets = go (ltb (room / 48) octets) refl
   where
-    go : (b : Bool) → ltb (room / 48) octets ≡ b → ltb (room / 48) octets ≡ ltb room (48 * octets)
-    go true e = e ∙ sym (lt-ltb room (48 * octets) (omega (arith, ltb-true (room / 48) octets e)))
-    go false e = e ∙ sym (le-ltb room (48 * octets) (omega (arith, ltb-false (room / 48) octets e)))
+    go : (b : Bool) → ltb (room / 48) octets ≡ b → ltb (room / 48) octets ≡ ltb room (recordRoom * octets)
+    go true e = e ∙ sym (lt-ltb room (recordRoom * octets) (omega (arith, ltb-true (room / 48) octets e)))
+    go false e = e ∙ sym (le-ltb room (recordRoom * octets) (omega (arith, ltb-false (room / 48) octets e)))
 
 -- ---- what no fault says
 pub record Receivable (l : Link) (octets pool descriptors records : List ℕ) : Type 0 where
@@ -49,7 +50,7 @@ pub record Receivable (l : Link) (octets pool descriptors records : List ℕ) : 
   pub octets-280 : length pool ≡ 280 * l .settings .k
   pub words-2 : length descriptors ≡ 2 * l .settings .k
   pub few : length octets ≤ 1024
-  pub room : 48 * length octets ≤ length records
+  pub room : recordRoom * length octets ≤ length records
 
 count-in : (mode : Mode) (s : Settings) (count : ℕ) → countOut mode s count ≡ false → countInRange (monitorLimits s) mode count
 count-in Failure s count e = leb-false (s .t) count e
@@ -72,7 +73,7 @@ module _ (l : Link) (octets pool descriptors records : List ℕ) where
         octets-280 = eqb-true _ _ (fits .0);
         words-2 = eqb-true _ _ (fits .1);
         few = ltb-false 1024 (length octets) (n7 .0);
-        room = ltb-false (length records) (48 * length octets) (n8 .0);
+        room = ltb-false (length records) (recordRoom * length octets) (n8 .0);
       }
 
   module _ (r : Receivable l octets pool descriptors records) where

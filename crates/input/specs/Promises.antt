@@ -4,6 +4,7 @@ use mathlib.Core.Path.{_≡_}
 use mathlib.Core.Bool.{true}
 use mathlib.Core.List.{List, [], _++_}
 use lib.ListN.{take}
+use Rattle.board.specs.Limits.{recordOctets}
 use Rattle.board.specs.declared.Settings.{Settings}
 use Rattle.board.specs.declared.Link.{Link}
 use Rattle.units.specs.Promises.{Sums}
@@ -31,7 +32,7 @@ RefusedReceive =
 
 -- the records that a call wrote
 abbrev pub written : ReceiveOutcome → List ℕ
-written o = take (16 * o .count) (o .records)
+written o = take (recordOctets * o .count) (o .records)
 
 -- Receiving a line in one call, or a first part and then the rest with the same memory, gives the same link, the same memory and the
 -- same records in order.

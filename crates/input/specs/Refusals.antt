@@ -4,6 +4,8 @@ use mathlib.Core.Bool.{not}
 use mathlib.Core.List.{List, [], _∷_}
 use lib.Dec.{ltb}
 use lib.ListN.{length}
+use Rattle.bits.specs.Format.{basic}
+use Rattle.board.specs.Limits.{recordRoom, mostLine}
 use Rattle.board.specs.declared.Link.{Link}
 use Rattle.board.specs.Malformed.{malformed}
 use Rattle.link.specs.Refusals.{Fault, fault, first, fitsMemory}
@@ -13,9 +15,9 @@ abbrev pub receiveFaults : Link → List ℕ → List ℕ → List ℕ → List 
 receiveFaults l octets pool descriptors records =
     fault (malformed l) 1
     ∷ fault (not (l .opened)) 2
-    ∷ fault (not (fitsMemory (l .settings .k) pool descriptors)) 5
-    ∷ fault (ltb 1024 (length octets)) 7
-    ∷ fault (ltb (length records) (48 * length octets)) 8
+    ∷ fault (not (fitsMemory basic (l .settings .k) pool descriptors)) 5
+    ∷ fault (ltb mostLine (length octets)) 7
+    ∷ fault (ltb (length records) (recordRoom * length octets)) 8
     ∷ []
 
 unfoldable pub receiveNumber : Link → List ℕ → List ℕ → List ℕ → List ℕ → ℕ

@@ -23,9 +23,9 @@ fn receive_number(link: Link, octets: &[u8], pool: &[u8], descriptors: &[u16], r
     let malformed = wellformed::is_malformed(link);
     let fits = link::booking::fits_memory(link.settings.k, pool, descriptors);
     // 48 octets for each line octet, asked without a product that could overflow
-    let short = records.len() / 48 < octets.len();
+    let short = records.len() / Link::RECORDS < octets.len();
     let eight = link::refuse(short, 8, 0);
-    let seven = link::refuse(1024 < octets.len(), 7, eight);
+    let seven = link::refuse(Link::MOST_LINE < octets.len(), 7, eight);
     let five = link::refuse(!fits, 5, seven);
     let two = link::refuse(!link.opened, 2, five);
     link::refuse(malformed, 1, two)

@@ -4,6 +4,7 @@ use Prim.Native.Nat.{ℕ, zero, suc, _*_}
 use mathlib.Core.Bool.{false}
 use mathlib.Core.List.{List, [], _∷_}
 use lib.ListN.{take, replicate}
+use Rattle.board.specs.Limits.{recordOctets}
 use Rattle.bits.specs.Machine.{outs}
 use Rattle.board.specs.declared.Settings.{Settings}
 use Rattle.board.specs.declared.Link.{Link}
@@ -64,7 +65,7 @@ passed h octet =
 
 -- "writes records": those of each octet, as they come
 abbrev pub viewRecords : Held → ℕ → List ℕ
-viewRecords h octet = let f = fed (h .link) octet (h .pool) (h .descriptors) (replicate 48 0) in take (16 * f .count) (f .records)
+viewRecords h octet = let f = fed (h .link) octet (h .pool) (h .descriptors) (replicate 48 0) in take (recordOctets * f .count) (f .records)
 
 unfoldable pub allWritten : Held → List ℕ → List ℕ
 allWritten h octets = outs passed viewRecords h octets

@@ -9,6 +9,7 @@ use link::slots;
 ghost use mathlib.Core.Path.{_≡_};
 ghost use Prim.Native.Nat.{_*_, _≤_};
 ghost use lib.ListN.{length};
+ghost use Rattle.board.specs.Limits.{recordOctets};
 ghost use Rattle.lineview_board.specs.View.{rowOne, boardOpened, filledBack, fed};
 
 // Row 1 with 16 slots, the mask all ones, the switches off.
@@ -78,7 +79,7 @@ pub fn feed(
 // How many octets so many records are, at most all of the area.
 pub fn octets_of(count: usize, records: &[u8]) -> usize
     ensures { λ r. ⌜ r ≤ length (now (records .entry)) ⌝ }
-    ensures { λ r. ⌜ (16 * count ≤ length (now (records .entry)) → r ≡ 16 * count) ⌝ }
+    ensures { λ r. ⌜ (recordOctets * count ≤ length (now (records .entry)) → r ≡ recordOctets * count) ⌝ }
 {
     if count <= records.len() / 16 {
         16 * count

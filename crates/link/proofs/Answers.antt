@@ -8,13 +8,15 @@ use lib.Dec.{eqb, leb, ltb}
 use lib.ListN.{length, take, drop}
 use lib.Seq.{take-take}
 use borrow.Author.Tests.{eq-eqb, ne-eqb, eqb-true, leb-false, ltb-false, not-false}
-use Rattle.memory.specs.Lent.{zeros, emptyDescriptors, statusOf, lengthOf, slotOf, withSlot, withDescriptor, emptySlot}
+use Rattle.bits.specs.Format.{basic}
+use Rattle.memory.specs.declared.Status.the-variants as statuses
+use Rattle.memory.specs.Lent.{zeros, emptyDescriptors, statusOf, lengthOf, slotOf, withSlot, withDescriptor, emptySlot, statusWord}
 use Rattle.board.specs.declared.Settings.{Settings}
 use Rattle.board.specs.declared.Link.{Link}
 use Rattle.board.specs.Malformed.{inRange, malformed}
 use Rattle.board.proofs.Ranges.{both, neither}
 use Rattle.link.specs.declared.Answer.{Answer}
-use Rattle.link.specs.Refusals.{fitsMemory, openNumber, commandNumber, readNumber}
+use Rattle.link.specs.Refusals.{isFilled, fitsMemory, openNumber, commandNumber, readNumber}
 use Rattle.link.specs.Commands.{commandOf, obeyed}
 use Rattle.link.specs.Calls.{Outcome, outcome, openedLink, openAnswer, commandAnswer, readPart, handAnswer}
 use Rattle.link.proofs.Faults.{none}
@@ -36,7 +38,7 @@ refused n a b z = cond-false a b (ne-eqb n 0 z)
 pub record Openable (l : Link) (s : Settings) (pool descriptors : List ℕ) : Type 0 where
   pub good : malformed l ≡ false
   pub closed : l .opened ≡ false
-  pub range : inRange s ≡ true
+  pub range : inRange basic s ≡ true
   pub octets : length pool ≡ 280 * s .k
   pub words : length descriptors ≡ 2 * s .k
   pub clean-pool : zeros pool ≡ true
@@ -86,7 +88,7 @@ module _ (l : Link) (command n : ℕ) (e : n ≡ commandNumber l command) where
 pub record Readable (l : Link) (pool descriptors : List ℕ) (slot : ℕ) : Type 0 where
   pub good : malformed l ≡ false
   pub opened : l .opened ≡ true
-  pub fits : fitsMemory (l .settings .k) pool descriptors ≡ true
+  pub fits : fitsMemory basic (l .settings .k) pool descriptors ≡ true
   pub octets : length pool ≡ 280 * l .settings .k
   pub words : length descriptors ≡ 2 * l .settings .k
   pub below : slot < l .settings .k
@@ -109,7 +111,7 @@ module _ (l : Link) (pool descriptors : List ℕ) (slot : ℕ) where
         octets = eqb-true _ _ (fits .0);
         words = eqb-true _ _ (fits .1);
         below = leb-false _ _ (n12 .0);
-        short = ltb-false 278 (lengthOf descriptors slot) (neither (ltb 2 (statusOf descriptors slot)) (ltb 278 (lengthOf descriptors slot)) (n13 .0) .1);
+        short = ltb-false 278 (lengthOf descriptors slot) (neither (not (isFilled (statusOf descriptors slot))) (ltb 278 (lengthOf descriptors slot)) (n13 .0) .1);
       }
 
   module _ (n : ℕ) (e : n ≡ readNumber l pool descriptors slot) where
@@ -132,7 +134,7 @@ module _ (l : Link) (pool descriptors : List ℕ) (slot : ℕ) where
     unfolding handAnswer
     hand-refused z = ap (λ (k : ℕ). outcome k l pool descriptors) e ∙ sym (refused _ _ _ (λ q. z (e ∙ q)))
 
-    pub hand-done : (p d : List ℕ) → n ≡ 0 → p ≡ withSlot pool slot emptySlot → d ≡ withDescriptor descriptors slot 32768 0
+    pub hand-done : (p d : List ℕ) → n ≡ 0 → p ≡ withSlot basic pool slot (emptySlot basic) → d ≡ withDescriptor descriptors slot (statusWord statuses.Empty) 0
         → outcome 0 l p d ≡ handAnswer l pool descriptors slot
     unfolding handAnswer
     hand-done p d z ep ed = ap₂ (λ (x y : List ℕ). outcome 0 l x y) ep ed ∙ sym (done _ _ _ (sym e ∙ z))

@@ -7,7 +7,9 @@ use native.Mathlib.Omega.{arith}
 use lib.Dec.{eqb, leb, ltb}
 use lib.ListN.{length, replicate, length-replicate}
 use borrow.Author.Tests.{eq-eqb, lt-ltb, lt-leb, eqb-true, eqb-false}
-use Rattle.memory.specs.Lent.{zeros, emptyDescriptors, statusOf, lengthOf, withSlot, withDescriptor, emptySlot}
+use Rattle.bits.specs.Format.{basic}
+use Rattle.memory.specs.declared.Status.the-variants as statuses
+use Rattle.memory.specs.Lent.{zeros, emptyDescriptors, statusOf, lengthOf, withSlot, withDescriptor, emptySlot, statusWord}
 use Rattle.memory.proofs.Slots.{wiped-zeros, pool-length, descriptor-written, descriptors-length}
 use Rattle.board.specs.declared.Settings.{Settings}
 use Rattle.board.specs.declared.Link.{Link}
@@ -70,18 +72,18 @@ hand-number l pool descriptors slot = go (eqb n 0) refl
     go true e = rw e (sym (eqb-true n 0 e))
     go false e = rw e
 
-emptied : length emptySlot ≡ 280
+emptied : length (emptySlot basic) ≡ 280
 unfolding emptySlot
 emptied = length-replicate {A = ℕ} 280 0
 
 handed : (l : Link) (pool descriptors : List ℕ) (slot : ℕ) → readNumber l pool descriptors slot ≡ 0
-    → handAnswer l pool descriptors slot ≡ outcome 0 l (withSlot pool slot emptySlot) (withDescriptor descriptors slot 32768 0)
+    → handAnswer l pool descriptors slot ≡ outcome 0 l (withSlot basic pool slot (emptySlot basic)) (withDescriptor descriptors slot (statusWord statuses.Empty) 0)
 unfolding handAnswer
 handed l pool descriptors slot z = done _ _ _ z
 
 -- a slot that is marked empty is not read
 empty-unread : (l : Link) (pool descriptors : List ℕ) (slot : ℕ) → malformed l ≡ false → l .opened ≡ true
-    → fitsMemory (l .settings .k) pool descriptors ≡ true → slot < l .settings .k → statusOf descriptors slot ≡ 32768 → readNumber l pool descriptors slot ≡ 13
+    → fitsMemory basic (l .settings .k) pool descriptors ≡ true → slot < l .settings .k → statusOf descriptors slot ≡ statusWord statuses.Empty → readNumber l pool descriptors slot ≡ 13
 unfolding readNumber first
 empty-unread l pool descriptors slot m o f b s =
     rw (m, o, f, lt-leb (l .settings .k) slot b, s)
@@ -91,9 +93,9 @@ unfolding fitsMemory
 handed-back-is-empty l pool descriptors slot e =
     let z = sym (hand-number l pool descriptors slot) ∙ e in
     let ok = readable l pool descriptors slot z in
-    let a : handAnswer l pool descriptors slot ≡ outcome 0 l (withSlot pool slot emptySlot) (withDescriptor descriptors slot 32768 0) = handed l pool descriptors slot z in
-    let p : length (withSlot pool slot emptySlot) ≡ 280 * l .settings .k = pool-length pool emptySlot slot emptied (omega (arith, ok .octets, ok .below)) ∙ ok .octets in
-    let w : length (withDescriptor descriptors slot 32768 0) ≡ 2 * l .settings .k = descriptors-length descriptors slot 32768 0 ∙ ok .words in
+    let a : handAnswer l pool descriptors slot ≡ outcome 0 l (withSlot basic pool slot (emptySlot basic)) (withDescriptor descriptors slot (statusWord statuses.Empty) 0) = handed l pool descriptors slot z in
+    let p : length (withSlot basic pool slot (emptySlot basic)) ≡ 280 * l .settings .k = pool-length basic pool (emptySlot basic) slot emptied (omega (arith, ok .octets, ok .below)) ∙ ok .octets in
+    let w : length (withDescriptor descriptors slot (statusWord statuses.Empty) 0) ≡ 2 * l .settings .k = descriptors-length descriptors slot (statusWord statuses.Empty) 0 ∙ ok .words in
     ap (λ (x : Outcome). readNumber l (x .pool) (x .descriptors) slot) a
-    ∙ empty-unread l (withSlot pool slot emptySlot) (withDescriptor descriptors slot 32768 0) slot (ok .good) (ok .opened)
-    (rw (eq-eqb _ _ p, eq-eqb _ _ w)) (ok .below) (descriptor-written descriptors slot 32768 0 (omega (arith, ok .words, ok .below)) .0)
+    ∙ empty-unread l (withSlot basic pool slot (emptySlot basic)) (withDescriptor descriptors slot (statusWord statuses.Empty) 0) slot (ok .good) (ok .opened)
+    (rw (eq-eqb _ _ p, eq-eqb _ _ w)) (ok .below) (descriptor-written descriptors slot (statusWord statuses.Empty) 0 (omega (arith, ok .words, ok .below)) .0)

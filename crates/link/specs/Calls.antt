@@ -5,7 +5,9 @@ use mathlib.Core.Bool.{true, false, cond}
 use mathlib.Core.List.{List, []}
 use lib.Dec.{eqb}
 use lib.ListN.{take}
-use Rattle.memory.specs.Lent.{wiped, emptyDescriptors, lengthOf, slotOf, withSlot, withDescriptor, emptySlot}
+use Rattle.bits.specs.Format.{basic}
+use Rattle.memory.specs.declared.Status.the-variants as statuses
+use Rattle.memory.specs.Lent.{wiped, emptyDescriptors, lengthOf, slotOf, withSlot, withDescriptor, emptySlot, statusWord}
 use Rattle.board.specs.declared.Settings.{Settings}
 use Rattle.board.specs.declared.Link.{Link}
 use Rattle.board.specs.Link.{newLink, newUnits}
@@ -61,11 +63,11 @@ commandAnswer l command =
 -- "Read returns the first length octets of the slot, as a part of the pool"
 unfoldable pub readPart : Link → List ℕ → List ℕ → ℕ → List ℕ
 readPart l pool descriptors slot =
-    cond (eqb (readNumber l pool descriptors slot) 0) (take (lengthOf descriptors slot) (slotOf pool slot)) []
+    cond (eqb (readNumber l pool descriptors slot) 0) (take (lengthOf descriptors slot) (slotOf basic pool slot)) []
 
 -- "Hand back zeroes the slot and its length and marks it empty."
 unfoldable pub handAnswer : Link → List ℕ → List ℕ → ℕ → Outcome
 handAnswer l pool descriptors slot =
     cond (eqb (readNumber l pool descriptors slot) 0)
-    (outcome 0 l (withSlot pool slot emptySlot) (withDescriptor descriptors slot 32768 0))
+    (outcome 0 l (withSlot basic pool slot (emptySlot basic)) (withDescriptor descriptors slot (statusWord statuses.Empty) 0))
     (outcome (readNumber l pool descriptors slot) l pool descriptors)

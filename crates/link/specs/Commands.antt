@@ -3,6 +3,7 @@
 use Prim.Native.Nat.{ℕ}
 use mathlib.Core.Bool.{Bool, true, false, cond}
 use lib.Dec.{eqb}
+use Rattle.bits.specs.Format.{basic}
 use Rattle.monitor.specs.declared.Mode.the-variants.{Failure, Alignment}
 use Rattle.monitor.specs.Monitor.{started, stopped}
 use Rattle.filter.specs.Memory.{emptyMemory}
@@ -29,6 +30,6 @@ unfoldable pub obeyed : CommandCode → Link → Link
 obeyed MonitorOff l = withMonitor l (stopped (l .supervision .monitor))
 obeyed StartFailure l = withMonitor l (started Failure)
 obeyed StartAlignment l = withMonitor l (started Alignment)
-obeyed MustHandOver l = withMemory l emptyMemory
+obeyed MustHandOver l = withMemory l (emptyMemory basic)
 obeyed CountOctets l = withCounting l (record { on = true; left = l .units .counting .left })
 obeyed Unknown l = l

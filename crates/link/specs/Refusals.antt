@@ -4,7 +4,9 @@ use mathlib.Core.Bool.{Bool, true, false, not, _&&_, _||_, cond}
 use mathlib.Core.List.{List, [], _∷_}
 use lib.Dec.{eqb, leb, ltb}
 use lib.ListN.{length}
-use Rattle.memory.specs.Lent.{zeros, statusOf, lengthOf}
+use Rattle.bits.specs.Format.{Format, basic, mostLongest}
+use Rattle.memory.specs.declared.Status.the-variants.{Good, CheckWrong, NotWhole}
+use Rattle.memory.specs.Lent.{zeros, statusWord, statusOf, lengthOf}
 use Rattle.board.specs.declared.Settings.{Settings}
 use Rattle.board.specs.declared.Link.{Link}
 use Rattle.board.specs.Malformed.{inRange, malformed}
@@ -33,15 +35,22 @@ rising n [] = true
 rising n (f ∷ fs) = ltb n (f .number) && rising (f .number) fs
 
 -- "pool [..] exactly 280K octets [and] descriptors [..] 2K words"
-unfoldable pub fitsMemory : ℕ → List ℕ → List ℕ → Bool
-fitsMemory k pool descriptors = eqb (length pool) (280 * k) && eqb (length descriptors) (2 * k)
+unfoldable pub fitsMemory : Format → ℕ → List ℕ → List ℕ → Bool
+fitsMemory F k pool descriptors = eqb (length pool) (F .slot * k) && eqb (length descriptors) (2 * k)
+
+-- "status not 0, 1 or 2, or length over 278"
+abbrev pub isFilled : ℕ → Bool
+isFilled status = (eqb status (statusWord Good) || eqb status (statusWord CheckWrong)) || eqb status (statusWord NotWhole)
+
+abbrev pub unreadable : Format → ℕ → ℕ → Bool
+unreadable F status count = not (isFilled status) || ltb (mostLongest F) count
 
 abbrev pub openFaults : Link → Settings → List ℕ → List ℕ → List Fault
 openFaults l s pool descriptors =
     fault (malformed l) 1
     ∷ fault (l .opened) 3
-    ∷ fault (not (inRange s)) 4
-    ∷ fault (not (fitsMemory (s .k) pool descriptors)) 5
+    ∷ fault (not (inRange basic s)) 4
+    ∷ fault (not (fitsMemory basic (s .k) pool descriptors)) 5
     ∷ fault (not (zeros pool && zeros descriptors)) 6
     ∷ []
 
@@ -56,9 +65,9 @@ abbrev pub readFaults : Link → List ℕ → List ℕ → ℕ → List Fault
 readFaults l pool descriptors slot =
     fault (malformed l) 1
     ∷ fault (not (l .opened)) 2
-    ∷ fault (not (fitsMemory (l .settings .k) pool descriptors)) 5
+    ∷ fault (not (fitsMemory basic (l .settings .k) pool descriptors)) 5
     ∷ fault (leb (l .settings .k) slot) 12
-    ∷ fault (ltb 2 (statusOf descriptors slot) || ltb 278 (lengthOf descriptors slot)) 13
+    ∷ fault (unreadable basic (statusOf descriptors slot) (lengthOf descriptors slot)) 13
     ∷ []
 
 unfoldable pub openNumber : Link → Settings → List ℕ → List ℕ → ℕ

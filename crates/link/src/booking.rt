@@ -6,15 +6,16 @@ use board::Settings;
 use board::wellformed;
 ghost use mathlib.Core.Path.{_≡_};
 ghost use Prim.Native.Nat.{ℕ};
+ghost use Rattle.bits.specs.Format.{basic};
 ghost use Rattle.link.specs.Refusals.{fitsMemory, openNumber};
 ghost use Rattle.link.specs.Calls.{openedLink, openAnswer, wipeAnswer};
 
 // Whether pool and descriptors are exactly those of k slots.
 pub fn fits_memory(k: u16, pool: &[u8], descriptors: &[u16]) -> bool
-    ensures { λ r. ⌜ r ≡ fitsMemory k (now (pool .entry)) (now (descriptors .entry)) ⌝ }
+    ensures { λ r. ⌜ r ≡ fitsMemory basic k (now (pool .entry)) (now (descriptors .entry)) ⌝ }
 {
     let slots = k as usize;
-    (pool.len() == 280 * slots) & (descriptors.len() == 2 * slots)
+    (pool.len() == Link::SLOT * slots) & (descriptors.len() == 2 * slots)
 }
 
 // The number that open answers.

@@ -17,7 +17,10 @@ pub fn read_number(link: Link, pool: &[u8], descriptors: &[u16], slot: u16) -> u
     let at = 2 * (slot as usize);
     let status = memory::word_at(descriptors, at);
     let count = memory::word_at(descriptors, at + 1);
-    let thirteen = crate::refuse((2 < status) | (278 < count), 13, 0);
+    let filled = (status == Link::STATUS_GOOD)
+        | (status == Link::STATUS_CHECK_WRONG)
+        | (status == Link::STATUS_NOT_WHOLE);
+    let thirteen = crate::refuse(!filled | (Link::MOST_LONGEST < count), 13, 0);
     let twelve = crate::refuse(k <= slot, 12, thirteen);
     let five = crate::refuse(!fits, 5, twelve);
     let two = crate::refuse(!link.opened, 2, five);
@@ -31,7 +34,7 @@ pub fn read<'a, 'b>(link: Link, pool: &'a [u8], descriptors: &'b [u16], slot: u1
     if read_number(link, pool, descriptors, slot) != 0 {
         return &pool[0..0];
     }
-    let from = 280 * (slot as usize);
+    let from = Link::SLOT * (slot as usize);
     let at = 2 * (slot as usize) + 1;
     let count = descriptors[at] as usize;
     &pool[from..from + count]

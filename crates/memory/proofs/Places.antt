@@ -8,7 +8,9 @@ use native.Mathlib.Omega.{arith}
 use borrow.Rule.Slice.PartMut.{midOf, putMid, post-is, mid-len}
 use lib.ListN.{length, getD, set, replicate, length-replicate, List·getD-append, List·getD-eq-default, getD-replicate}
 use lib.Seq.{getD-append-add}
-use Rattle.memory.specs.Lent.{emptyDescriptors, withSlot, withDescriptor, filled, emptySlot, wiped}
+use Rattle.bits.specs.Format.{basic}
+use Rattle.memory.specs.declared.Status.the-variants.{Empty}
+use Rattle.memory.specs.Lent.{statusWord, emptyDescriptors, withSlot, withDescriptor, filled, emptySlot, wiped}
 use Rattle.memory.proofs.Slots.{empty-each}
 
 -- past the end stands 0
@@ -32,7 +34,7 @@ unfolding wiped
 wiped-at l i = zero-at (length l) i
 
 -- ---- the descriptors of empty slots: status at the even places, length at the others
-pub even-word : (i k : ℕ) → i % 2 ≡ 0 → i < 2 * k → 32768 ≡ getD (emptyDescriptors k) i 0
+pub even-word : (i k : ℕ) → i % 2 ≡ 0 → i < 2 * k → statusWord Empty ≡ getD (emptyDescriptors k) i 0
 even-word i k e h =
     let at : i ≡ 2 * (i / 2) = omega arith in
     rw at (sym (empty-each k (i / 2) (omega arith) .0))
@@ -43,7 +45,7 @@ odd-word i k e h =
     rw at (sym (empty-each k (i / 2) (omega arith) .1))
 
 -- ---- a unit in a slot: its octet, and 0 past its end
-pub filled-at : (unit : List ℕ) (i : ℕ) → getD unit i 0 ≡ getD (filled unit) i 0
+pub filled-at : (unit : List ℕ) (i : ℕ) → getD unit i 0 ≡ getD (filled basic unit) i 0
 unfolding filled
 filled-at unit i =
     let rest : List ℕ = replicate (280 - length unit) 0 in
@@ -63,12 +65,12 @@ module _ (pool : List ℕ) (s from : ℕ) (at : from ≡ 280 * s) where
   pub part-length : 280 * s + 280 ≤ length pool → length (midOf from (from + 280 - from) pool) ≡ 280
   part-length h = mid-len from (from + 280) pool (omega arith) ∙ omega arith
 
-  pub put-slot : {ys octets : List ℕ} → ys ≡ octets → putMid from (from + 280 - from) pool ys ≡ withSlot pool s octets
+  pub put-slot : {ys octets : List ℕ} → ys ≡ octets → putMid from (from + 280 - from) pool ys ≡ withSlot basic pool s octets
   unfolding withSlot
   put-slot e = rw (e, post-is from (from + 280) pool (omega arith), at)
 
 -- what was wiped of 280 octets
-pub wiped-slot : (l : List ℕ) → length l ≡ 280 → wiped l ≡ emptySlot
+pub wiped-slot : (l : List ℕ) → length l ≡ 280 → wiped l ≡ emptySlot basic
 unfolding wiped emptySlot
 wiped-slot l e = ap (λ (n : ℕ). replicate {A = ℕ} n 0) e
 

@@ -4,74 +4,83 @@ use mathlib.Core.Path.{_≡_, refl, sym, ap, ap₂, _∙_}
 use mathlib.Core.Bool.{Bool, true, false, cond, _&&_}
 use mathlib.Core.List.{List, [], _∷_, _++_, append-assoc}
 use mathlib.Core.Logic.{_≢_}
-use native.Mathlib.Nat.{not-suc-le-zero}
+use native.Mathlib.Nat.{not-suc-le-zero, mul-suc, mul-le-mul-left}
 use native.Mathlib.Decide.{decLt}
 use native.Mathlib.Omega.{arith}
 use borrow.Author.Tests.{eqb-true, eqb-false}
 use lib.Dec.{eqb}
 use lib.ListN.{length, getD, take, drop, set, replicate, length-append, length-drop, length-set, length-replicate, take-append-drop}
 use lib.Seq.{length-take-le, take-append-le, take-append-seam, take-at, drop-append-le, drop-at, drop-drop, getD-set-same, getD-set-other}
+use Rattle.bits.specs.Format.{Format}
 use Rattle.memory.specs.Lent.{zeros, wiped, emptyDescriptors, slotOf, withSlot, withDescriptor, filled, emptySlot, nextSlot}
 use Rattle.memory.specs.Promises.{SlotWritten, SlotKept, PoolLength, DescriptorWritten, DescriptorKept, DescriptorsLength, EmptyLength, EmptyEach, ZerosExact, WipedZeros, EmptySlotLength, FilledLength, FilledFront, NextBelow}
 
 -- ---- a slot written
--- a slot within the front of a list
-front : (p r : List ℕ) (t : ℕ) → 280 * t + 280 ≤ length p → slotOf (p ++ r) t ≡ slotOf p t
-front p r t h =
-    ap (take 280) (drop-append-le (280 * t) p r (omega arith))
-    ∙ take-append-le 280 (drop (280 * t) p) r (omega (arith, length-drop (280 * t) p))
+-- a slot before another ends where that one begins, or before
+slots-apart : (n t s : ℕ) → t < s → n * t + n ≤ n * s
+slots-apart n t s h = omega (arith, mul-suc n t, mul-le-mul-left n h)
 
-module _ (pool octets : List ℕ) (s : ℕ) (l : length octets ≡ 280) (h : 280 * s + 280 ≤ length pool) where
-  before : length (take (280 * s) pool) ≡ 280 * s
-  before = length-take-le (280 * s) pool (omega arith)
+module _ (F : Format) where
+  -- a slot within the front of a list
+  front : (p r : List ℕ) (t : ℕ) → F .slot * t + F .slot ≤ length p → slotOf F (p ++ r) t ≡ slotOf F p t
+  front p r t h =
+      ap (take (F .slot)) (drop-append-le (F .slot * t) p r (omega arith))
+      ∙ take-append-le (F .slot) (drop (F .slot * t) p) r (omega (arith, length-drop (F .slot * t) p))
 
-  written : slotOf (withSlot pool s octets) s ≡ octets
-  unfolding withSlot
-  written =
-      ap (take 280) (drop-at (take (280 * s) pool) (octets ++ drop (280 * s + 280) pool) (280 * s) before)
-      ∙ take-at octets (drop (280 * s + 280) pool) 280 l
+  module _ (pool octets : List ℕ) (s : ℕ) (l : length octets ≡ F .slot) (h : F .slot * s + F .slot ≤ length pool) where
+    abbrev from : ℕ
+    from = F .slot * s
 
-  long : length (withSlot pool s octets) ≡ length pool
-  unfolding withSlot
-  long =
-      omega (
-        arith,
-        length-append (take (280 * s) pool) (octets ++ drop (280 * s + 280) pool),
-        length-append octets (drop (280 * s + 280) pool),
-        length-drop (280 * s + 280) pool,
-        before,
-      )
+    before : length (take from pool) ≡ from
+    before = length-take-le from pool (omega arith)
 
-  -- what stands after the slot is what stood there
-  after : drop (280 * s + 280) (withSlot pool s octets) ≡ drop (280 * s + 280) pool
-  unfolding withSlot
-  after =
-      ap (drop (280 * s + 280)) (sym (append-assoc (take (280 * s) pool) octets (drop (280 * s + 280) pool)))
-      ∙ drop-at (take (280 * s) pool ++ octets) (drop (280 * s + 280) pool) (280 * s + 280)
-      (omega (arith, length-append (take (280 * s) pool) octets, before))
+    written : slotOf F (withSlot F pool s octets) s ≡ octets
+    unfolding withSlot
+    written =
+        ap (take (F .slot)) (drop-at (take from pool) (octets ++ drop (from + F .slot) pool) from before)
+        ∙ take-at octets (drop (from + F .slot) pool) (F .slot) l
 
-  kept-before : (t : ℕ) → t < s → slotOf (withSlot pool s octets) t ≡ slotOf pool t
-  unfolding withSlot
-  kept-before t k =
-      let e : 280 * t + 280 ≤ length (take (280 * s) pool) = omega (arith, before) in
-      front (take (280 * s) pool) (octets ++ drop (280 * s + 280) pool) t e
-      ∙ sym (front (take (280 * s) pool) (drop (280 * s) pool) t e)
-      ∙ ap (λ (x : List ℕ). slotOf x t) (take-append-drop (280 * s) pool)
+    long : length (withSlot F pool s octets) ≡ length pool
+    unfolding withSlot
+    long =
+        omega (
+          arith,
+          length-append (take from pool) (octets ++ drop (from + F .slot) pool),
+          length-append octets (drop (from + F .slot) pool),
+          length-drop (from + F .slot) pool,
+          before,
+        )
 
-  kept-after : (t : ℕ) → s < t → slotOf (withSlot pool s octets) t ≡ slotOf pool t
-  kept-after t k =
-      let e : 280 * s + 280 + (280 * t - (280 * s + 280)) ≡ 280 * t = omega arith in
-      let from : (x : List ℕ) → drop (280 * t - (280 * s + 280)) (drop (280 * s + 280) x) ≡ drop (280 * t) x = λ x. drop-drop (280 * t - (280 * s + 280)) (280 * s + 280) x ∙ ap (λ (n : ℕ). drop n x) e in
-      ap (take 280) (sym (from (withSlot pool s octets)) ∙ ap (drop (280 * t - (280 * s + 280))) after ∙ from pool)
+    -- what stands after the slot is what stood there
+    after : drop (from + F .slot) (withSlot F pool s octets) ≡ drop (from + F .slot) pool
+    unfolding withSlot
+    after =
+        ap (drop (from + F .slot)) (sym (append-assoc (take from pool) octets (drop (from + F .slot) pool)))
+        ∙ drop-at (take from pool ++ octets) (drop (from + F .slot) pool) (from + F .slot)
+        (omega (arith, length-append (take from pool) octets, before))
+
+    kept-before : (t : ℕ) → t < s → slotOf F (withSlot F pool s octets) t ≡ slotOf F pool t
+    unfolding withSlot
+    kept-before t k =
+        let e : F .slot * t + F .slot ≤ length (take from pool) = omega (arith, before, slots-apart (F .slot) t s k) in
+        front (take from pool) (octets ++ drop (from + F .slot) pool) t e
+        ∙ sym (front (take from pool) (drop from pool) t e)
+        ∙ ap (λ (x : List ℕ). slotOf F x t) (take-append-drop from pool)
+
+    kept-after : (t : ℕ) → s < t → slotOf F (withSlot F pool s octets) t ≡ slotOf F pool t
+    kept-after t k =
+        let e : from + F .slot + (F .slot * t - (from + F .slot)) ≡ F .slot * t = omega (arith, slots-apart (F .slot) s t k) in
+        let on : (x : List ℕ) → drop (F .slot * t - (from + F .slot)) (drop (from + F .slot) x) ≡ drop (F .slot * t) x = λ x. drop-drop (F .slot * t - (from + F .slot)) (from + F .slot) x ∙ ap (λ (n : ℕ). drop n x) e in
+        ap (take (F .slot)) (sym (on (withSlot F pool s octets)) ∙ ap (drop (F .slot * t - (from + F .slot))) after ∙ on pool)
 
 pub slot-written : SlotWritten
 slot-written = written
 
 pub slot-kept : SlotKept
-slot-kept pool octets s t l h n =
+slot-kept F pool octets s t l h n =
     elim (decLt t s) [
-      | yes k ↦ kept-before pool octets s l h t k
-      | no k ↦ kept-after pool octets s l h t (omega arith)
+      | yes k ↦ kept-before F pool octets s l h t k
+      | no k ↦ kept-after F pool octets s l h t (omega arith)
     ]
 
 pub pool-length : PoolLength
@@ -144,16 +153,16 @@ wiped-zeros xs = zeros-replicate (length xs)
 -- ---- a slot's octets: empty, or a unit
 pub empty-slot-length : EmptySlotLength
 unfolding emptySlot
-empty-slot-length = length-replicate {A = ℕ} 280 0
+empty-slot-length F = length-replicate {A = ℕ} (F .slot) 0
 
 pub filled-length : FilledLength
 unfolding filled
-filled-length unit h =
-    omega (arith, length-append unit (replicate (280 - length unit) 0), length-replicate {A = ℕ} (280 - length unit) 0)
+filled-length F unit h =
+    omega (arith, length-append unit (replicate (F .slot - length unit) 0), length-replicate {A = ℕ} (F .slot - length unit) 0)
 
 pub filled-front : FilledFront
 unfolding filled
-filled-front unit = take-append-seam unit (replicate (280 - length unit) 0)
+filled-front F unit = take-append-seam unit (replicate (F .slot - length unit) 0)
 
 -- ---- the ring
 pub next-below : NextBelow

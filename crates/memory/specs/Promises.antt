@@ -5,23 +5,25 @@ use mathlib.Core.Bool.{true}
 use mathlib.Core.List.{List}
 use mathlib.Core.Logic.{_↔_, _≢_}
 use lib.ListN.{length, replicate, take}
-use Rattle.memory.specs.Lent.{zeros, wiped, emptyDescriptors, statusOf, lengthOf, slotOf, withSlot, withDescriptor, filled, emptySlot, nextSlot}
+use Rattle.bits.specs.Format.{Format}
+use Rattle.memory.specs.declared.Status.the-variants.{Empty}
+use Rattle.memory.specs.Lent.{zeros, wiped, statusWord, emptyDescriptors, statusOf, lengthOf, slotOf, withSlot, withDescriptor, filled, emptySlot, nextSlot}
 
 -- A slot written holds the octets that were written,
 abbrev pub SlotWritten : Type 0
 SlotWritten =
-    (pool octets : List ℕ) (s : ℕ) → length octets ≡ 280 → 280 * s + 280 ≤ length pool → slotOf (withSlot pool s octets) s ≡ octets
+    (F : Format) (pool octets : List ℕ) (s : ℕ) → length octets ≡ F .slot → F .slot * s + F .slot ≤ length pool → slotOf F (withSlot F pool s octets) s ≡ octets
 
 -- every other slot holds what it held,
 abbrev pub SlotKept : Type 0
 SlotKept =
-    (pool octets : List ℕ) (s t : ℕ) → length octets ≡ 280 → 280 * s + 280 ≤ length pool → t ≢ s
-    → slotOf (withSlot pool s octets) t ≡ slotOf pool t
+    (F : Format) (pool octets : List ℕ) (s t : ℕ) → length octets ≡ F .slot → F .slot * s + F .slot ≤ length pool → t ≢ s
+    → slotOf F (withSlot F pool s octets) t ≡ slotOf F pool t
 
 -- and the pool is as long as it was.
 abbrev pub PoolLength : Type 0
 PoolLength =
-    (pool octets : List ℕ) (s : ℕ) → length octets ≡ 280 → 280 * s + 280 ≤ length pool → length (withSlot pool s octets) ≡ length pool
+    (F : Format) (pool octets : List ℕ) (s : ℕ) → length octets ≡ F .slot → F .slot * s + F .slot ≤ length pool → length (withSlot F pool s octets) ≡ length pool
 
 -- Descriptors written have the slot's new status and length,
 abbrev pub DescriptorWritten : Type 0
@@ -47,7 +49,7 @@ EmptyLength = (k : ℕ) → length (emptyDescriptors k) ≡ 2 * k
 
 abbrev pub EmptyEach : Type 0
 EmptyEach =
-    (k s : ℕ) → s < k → (statusOf (emptyDescriptors k) s ≡ 32768) × (lengthOf (emptyDescriptors k) s ≡ 0)
+    (k s : ℕ) → s < k → (statusOf (emptyDescriptors k) s ≡ statusWord Empty) × (lengthOf (emptyDescriptors k) s ≡ 0)
 
 -- The test for zeros holds exactly of octets or words that are all zero, so it holds of what was wiped.
 abbrev pub ZerosExact : Type 0
@@ -56,16 +58,16 @@ ZerosExact = (xs : List ℕ) → (zeros xs ≡ true) ↔ (xs ≡ replicate (leng
 abbrev pub WipedZeros : Type 0
 WipedZeros = (xs : List ℕ) → zeros (wiped xs) ≡ true
 
--- An empty slot has 280 octets.
+-- An empty slot has as many octets as the format says,
 abbrev pub EmptySlotLength : Type 0
-EmptySlotLength = length emptySlot ≡ 280
+EmptySlotLength = (F : Format) → length (emptySlot F) ≡ F .slot
 
--- A unit of up to 280 octets fills a slot, and stands at its front.
+-- a unit of up to so many fills a slot, and stands at its front.
 abbrev pub FilledLength : Type 0
-FilledLength = (unit : List ℕ) → length unit ≤ 280 → length (filled unit) ≡ 280
+FilledLength = (F : Format) (unit : List ℕ) → length unit ≤ F .slot → length (filled F unit) ≡ F .slot
 
 abbrev pub FilledFront : Type 0
-FilledFront = (unit : List ℕ) → take (length unit) (filled unit) ≡ unit
+FilledFront = (F : Format) (unit : List ℕ) → take (length unit) (filled F unit) ≡ unit
 
 -- The slot after one of k slots is one of them.
 abbrev pub NextBelow : Type 0

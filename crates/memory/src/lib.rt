@@ -2,7 +2,21 @@
 ghost use mathlib.Core.Path.{_≡_};
 ghost use Prim.Native.Nat.{ℕ, _+_, _*_, _≤_, _<_};
 ghost use lib.ListN.{length, take, getD};
-ghost use Rattle.memory.specs.Lent.{zeros, wiped, emptyDescriptors, withSlot, withDescriptor, filled, emptySlot, nextSlot};
+ghost use Rattle.bits.specs.Format.{basic};
+ghost use Rattle.memory.specs.Lent.{statusWord, zeros, wiped, emptyDescriptors, withSlot, withDescriptor, filled, emptySlot, nextSlot};
+
+// Octets of a slot.
+pub const SLOT: usize = 280;
+// The status of an empty slot.
+pub const STATUS_EMPTY: u16 = 32768;
+
+// What a slot holds: nothing, a good unit, or one with an error.
+pub enum Status {
+    Empty,
+    Good,
+    CheckWrong,
+    NotWhole,
+}
 
 // Whether every octet is zero.
 pub fn no_octet(octets: &[u8]) -> bool
@@ -83,11 +97,11 @@ fn store(
     status: u16,
 )
     requires { ⌜ (280 * slot + 280 ≤ length (now pool)) × (2 * slot + 2 ≤ length (now descriptors)) ⌝ }
-    ensures { λ _. ⌜ (now (pool .exit) ≡ withSlot (now (pool .entry)) slot (filled (take count (now (area .entry))))) × (now (descriptors .exit) ≡ withDescriptor (now (descriptors .entry)) slot status count) ⌝ }
+    ensures { λ _. ⌜ (now (pool .exit) ≡ withSlot basic (now (pool .entry)) slot (filled basic (take count (now (area .entry))))) × (now (descriptors .exit) ≡ withDescriptor (now (descriptors .entry)) slot status count) ⌝ }
 {
     let from = start_of(slot);
     let unit = first_octets(area, count as usize);
-    fill_slot(&mut pool[from..from + 280], unit);
+    fill_slot(&mut pool[from..from + SLOT], unit);
     describe(descriptors, slot, status, count);
 }
 
@@ -102,7 +116,7 @@ pub fn store_next(
     status: u16,
 ) -> u16
     requires { ⌜ (280 * next + 280 ≤ length (now pool)) × (2 * next + 2 ≤ length (now descriptors)) × (next < 65535) ⌝ }
-    ensures { λ r. ⌜ (r ≡ nextSlot k next) × (now (pool .exit) ≡ withSlot (now (pool .entry)) next (filled (take count (now (area .entry))))) × (now (descriptors .exit) ≡ withDescriptor (now (descriptors .entry)) next status count) ⌝ }
+    ensures { λ r. ⌜ (r ≡ nextSlot k next) × (now (pool .exit) ≡ withSlot basic (now (pool .entry)) next (filled basic (take count (now (area .entry))))) × (now (descriptors .exit) ≡ withDescriptor (now (descriptors .entry)) next status count) ⌝ }
 {
     store(pool, descriptors, next, area, count, status);
     next_slot(k, next)
@@ -111,11 +125,11 @@ pub fn store_next(
 // Zeroes a slot and its length, and marks it empty.
 pub fn release(pool: &mut [u8], descriptors: &mut [u16], slot: u16)
     requires { ⌜ (280 * slot + 280 ≤ length (now pool)) × (2 * slot + 2 ≤ length (now descriptors)) ⌝ }
-    ensures { λ _. ⌜ (now (pool .exit) ≡ withSlot (now (pool .entry)) slot emptySlot) × (now (descriptors .exit) ≡ withDescriptor (now (descriptors .entry)) slot 32768 0) ⌝ }
+    ensures { λ _. ⌜ (now (pool .exit) ≡ withSlot basic (now (pool .entry)) slot (emptySlot basic)) × (now (descriptors .exit) ≡ withDescriptor (now (descriptors .entry)) slot (statusWord Status.Empty) 0) ⌝ }
 {
     let from = start_of(slot);
-    wipe_octets(&mut pool[from..from + 280]);
-    describe(descriptors, slot, 32768, 0);
+    wipe_octets(&mut pool[from..from + SLOT]);
+    describe(descriptors, slot, STATUS_EMPTY, 0);
 }
 
 // The slot after `next`, round the ring of k slots.
@@ -130,7 +144,7 @@ fn next_slot(k: u16, next: u16) -> u16
 fn start_of(slot: u16) -> usize
     ensures { λ r. ⌜ r ≡ 280 * slot ⌝ }
 {
-    slot as usize * 280
+    slot as usize * SLOT
 }
 
 // Writes a slot's status and length.
@@ -147,7 +161,7 @@ fn describe(descriptors: &mut [u16], slot: u16, status: u16, count: u16)
 fn empty_word(i: usize) -> u16
     ensures { λ r. ⌜ ((k : ℕ) → i < 2 * k → r ≡ getD (emptyDescriptors k) i 0) ⌝ }
 {
-    if i % 2 == 0 { 32768 } else { 0 }
+    if i % 2 == 0 { STATUS_EMPTY } else { 0 }
 }
 
 // The first `count` octets of a gathered unit's area, or all of it.
@@ -172,7 +186,7 @@ fn octet_at(unit: &[u8], i: usize) -> u8
 // Writes a unit into a slot, all 280 octets of it.
 fn fill_slot(slot: &mut [u8], unit: &[u8])
     requires { ⌜ (length (now slot) ≡ 280) × (length (now unit) ≤ 280) ⌝ }
-    ensures { λ _. ⌜ now (slot .exit) ≡ filled (now (unit .entry)) ⌝ }
+    ensures { λ _. ⌜ now (slot .exit) ≡ filled basic (now (unit .entry)) ⌝ }
 {
     let mut i: usize = 0;
     while i < slot.len() {

@@ -10,6 +10,7 @@ use lib.ListN.{length, getD, take, drop, length-append}
 use lib.Seq.{sets, length-sets}
 use lib.Pow.{pow-pos}
 use borrow.Author.Tests.{eqb-true, ltb-false, not-false}
+use Rattle.bits.specs.Format.{basic}
 use Rattle.bits.specs.Octets.{bitsOf, lineBits, octetOf}
 use Rattle.sending.specs.declared.Tx.{Tx}
 use Rattle.sending.specs.Stuffing.{flag, unitLine}
@@ -145,7 +146,7 @@ take-two [] h = absurd (omega arith)
 take-two (a ∷ []) h = absurd (omega arith)
 take-two (a ∷ b ∷ cs) h = refl
 
-pub fill-content : (last : List ℕ) → length last ≡ 2 → getD last 0 0 ∷ getD last 1 0 ∷ 0 ∷ [] ≡ fillContent last
+pub fill-content : (last : List ℕ) → length last ≡ 2 → getD last 0 0 ∷ getD last 1 0 ∷ 0 ∷ [] ≡ fillContent basic last
 fill-content [] h = absurd (omega arith)
 fill-content (a ∷ []) h = absurd (omega arith)
 fill-content (a ∷ b ∷ []) h = refl
@@ -189,15 +190,15 @@ module _ (l : Link) (output : List ℕ) (n : ℕ) (e : n ≡ fillNumber l output
   unfolding fillAnswer fillOut
   flag-done r out′ link′ z s p q =
       put-done l flag false (l .transmitter .last) 0 output r out′ link′ p q
-      ∙ ap (λ (b : Bool). putOut l (cond b (unitOut (l .transmitter) (fillContent (l .transmitter .last))) flag) b (l .transmitter .last) (fillEvent b) output) (sym s)
+      ∙ ap (λ (b : Bool). putOut l (cond b (unitOut (l .transmitter) (fillContent basic (l .transmitter .last))) flag) b (l .transmitter .last) (fillEvent b) output) (sym s)
       ∙ sym (done _ _ _ (sym e ∙ z))
 
   pub fill-done : (r : Tx) (out′ : List ℕ) (link′ : Link) → n ≡ 0 → l .transmitter .sent ≡ true
-      → Puts output (sender (l .transmitter)) (unitOut (l .transmitter) (fillContent (l .transmitter .last))) 0 r out′
+      → Puts output (sender (l .transmitter)) (unitOut (l .transmitter) (fillContent basic (l .transmitter .last))) 0 r out′
       → link′ ≡ linkSent l (r .count) (r .wait) true (l .transmitter .last) 256
       → record { number = 0; link = link′; count = r .at; output = out′ } ≡ fillAnswer l output
   unfolding fillAnswer fillOut
   fill-done r out′ link′ z s p q =
-      put-done l (unitOut (l .transmitter) (fillContent (l .transmitter .last))) true (l .transmitter .last) 256 output r out′ link′ p q
-      ∙ ap (λ (b : Bool). putOut l (cond b (unitOut (l .transmitter) (fillContent (l .transmitter .last))) flag) b (l .transmitter .last) (fillEvent b) output) (sym s)
+      put-done l (unitOut (l .transmitter) (fillContent basic (l .transmitter .last))) true (l .transmitter .last) 256 output r out′ link′ p q
+      ∙ ap (λ (b : Bool). putOut l (cond b (unitOut (l .transmitter) (fillContent basic (l .transmitter .last))) flag) b (l .transmitter .last) (fillEvent b) output) (sym s)
       ∙ sym (done _ _ _ (sym e ∙ z))

@@ -4,8 +4,11 @@ use mathlib.Core.Bool.{Bool, true, false, cond}
 use mathlib.Core.List.{List, [], _∷_, _++_}
 use lib.Bits.{bitOr}
 use lib.Dec.{eqb}
-use lib.ListN.{length, take}
+use lib.ListN.{length, take, replicate}
 use lib.Seq.{sets}
+use Rattle.board.specs.declared.events.Event.the-variants as events
+use Rattle.board.specs.Events.{eventBit}
+use Rattle.bits.specs.Format.{Format, basic}
 use Rattle.bits.specs.Octets.{octetOf}
 use Rattle.sending.specs.declared.Tx.{Tx}
 use Rattle.sending.specs.Stuffing.{flag, unitLine}
@@ -35,15 +38,15 @@ unitOut t content = firstFlag (t .flagged) ++ unitLine content
 
 -- "Fill sends the first two octets of the last content sent, then an octet 0. Before any content it puts out one flag only, [..] whether or
 -- not a flag has gone before"
-abbrev pub fillContent : List ℕ → List ℕ
-fillContent last = last ++ (0 ∷ [])
+abbrev pub fillContent : Format → List ℕ → List ℕ
+fillContent F last = last ++ replicate (F .indicator) 0
 
 unfoldable pub fillOut : Transmitter → List Bool
-fillOut t = cond (t .sent) (unitOut t (fillContent (t .last))) flag
+fillOut t = cond (t .sent) (unitOut t (fillContent basic (t .last))) flag
 
 -- "8 fill-in sent", "and no event bit is set" for a flag alone
 abbrev pub fillEvent : Bool → ℕ
-fillEvent true = 256
+fillEvent true = eventBit events.FillSent
 fillEvent false = 0
 
 -- the link with so many bits waiting in its waiting octet, and an event bit more
@@ -69,7 +72,7 @@ notSent n l output = record { number = n; link = l; count = 0; output = output }
 -- "7 sent"
 unfoldable pub sendAnswer : Link → List ℕ → List ℕ → OutputOutcome
 sendAnswer l content output =
-    cond (eqb (sendNumber l content output) 0) (putOut l (unitOut (l .transmitter) content) true (take 2 content) 128 output)
+    cond (eqb (sendNumber l content output) 0) (putOut l (unitOut (l .transmitter) content) true (take (basic .numbers) content) (eventBit events.Sent) output)
     (notSent (sendNumber l content output) l output)
 
 unfoldable pub fillAnswer : Link → List ℕ → OutputOutcome

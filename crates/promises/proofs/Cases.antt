@@ -4,10 +4,12 @@ use mathlib.Core.Path.{_≡_, refl, sym, ap, subst, _∙_}
 use mathlib.Core.Bool.{true, false}
 use mathlib.Core.List.{List, [], _∷_, _++_}
 use lib.ListN.{length, replicate}
+use Rattle.bits.specs.Format.{basic}
+use Rattle.memory.specs.declared.Status.the-variants as statuses
 use Rattle.bits.specs.Octets.{bitsOf, octetOf, packed, wholeOctets}
 use Rattle.framing.specs.Delimitation.{stepBit}
 use Rattle.framing.specs.Verdict.{verdictOf}
-use Rattle.memory.specs.Lent.{emptyDescriptors, withSlot, withDescriptor, emptySlot, nextSlot}
+use Rattle.memory.specs.Lent.{emptyDescriptors, withSlot, withDescriptor, emptySlot, nextSlot, statusWord}
 use Rattle.filter.specs.Unit.{kindOf, same, masked}
 use Rattle.filter.specs.Memory.{settled}
 use Rattle.records.specs.Happening.{noted}
@@ -79,13 +81,13 @@ case-12 pool records z z′ = (
 thirteen : (pool pool′ : List ℕ)
     → let full = boardAfter (benchStarted 1 true .settings) (boardOf (benchStarted 1 true) pool (0 ∷ 5 ∷ [])) (126 ∷ fisu) in
     (lineKinds (benchStarted 1 true) (126 ∷ fisu) pool (0 ∷ 5 ∷ []) ≡ 2 ∷ [])
-    × (lineKinds (linkOf (benchStarted 1 true) full) (fisu ++ fisu) pool′ (withDescriptor (full .unitMemory .descriptors) 0 32768 0) ≡ 0 ∷ 1 ∷ [])
+    × (lineKinds (linkOf (benchStarted 1 true) full) (fisu ++ fisu) pool′ (withDescriptor (full .unitMemory .descriptors) 0 (statusWord statuses.Empty) 0) ≡ 0 ∷ 1 ∷ [])
 unfolding firsts lineRecords recordsOf recordOf noted supervisionAfter lineHappenings boardAfter unitMemoryAfter lineReceiver happenings lineIndications bitsOf stepBit obeyed effectOf octetEffect rowOf table closedUnit verdictOf erroredUnit emptyDescriptors settled goodUnit kindOf wholeOctets packed same masked octetOf withDescriptor nextSlot
 thirteen pool pool′ = (refl, refl)
 
 -- a hand back answered 0 gives the slot back empty
 handed : (l : Link) (pool descriptors : List ℕ) → handAnswer l pool descriptors 0 .number ≡ 0
-    → handAnswer l pool descriptors 0 ≡ outcome 0 l (withSlot pool 0 emptySlot) (withDescriptor descriptors 0 32768 0)
+    → handAnswer l pool descriptors 0 ≡ outcome 0 l (withSlot basic pool 0 (emptySlot basic)) (withDescriptor descriptors 0 (statusWord statuses.Empty) 0)
 unfolding handAnswer
 handed l pool descriptors z = done _ _ _ (sym (hand-number l pool descriptors 0) ∙ z)
 
@@ -103,8 +105,8 @@ again-after pool records records′ z =
     let again = receiveAnswer (x .link) (fisu ++ fisu) (x .pool) (x .descriptors) records′ in
     again .number ≡ 0 → kinds again ≡ 0 ∷ 1 ∷ []) (sym (handed (o .link) (o .pool) (o .descriptors) z))
     (λ z′.
-    by-line (o .link) (fisu ++ fisu) (withSlot (o .pool) 0 emptySlot) (withDescriptor (o .descriptors) 0 32768 0) records′ z′
-    ∙ thirteen pool (withSlot (o .pool) 0 emptySlot) .1)
+    by-line (o .link) (fisu ++ fisu) (withSlot basic (o .pool) 0 (emptySlot basic)) (withDescriptor (o .descriptors) 0 (statusWord statuses.Empty) 0) records′ z′
+    ∙ thirteen pool (withSlot basic (o .pool) 0 (emptySlot basic)) .1)
 
 pub case-13 : P13
 case-13 pool records records′ z z₂ z₃ = (

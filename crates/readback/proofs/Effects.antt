@@ -5,6 +5,12 @@ use mathlib.Core.Bool.{Bool, true, false}
 use mathlib.Core.List.{List, [], _∷_, _++_, map}
 use native.Mathlib.Omega.{arith}
 use lib.ListN.{length}
+use Rattle.filter.specs.declared.Fate.the-variants.{HandedOver}
+use Rattle.memory.specs.declared.Status.the-variants as statuses
+use Rattle.board.specs.Events.{eventBit}
+use Rattle.records.specs.declared.RecordKind.the-variants as kinds
+use Rattle.board.specs.declared.events.Event.the-variants as events
+use Rattle.board.specs.Limits.{monitorLimits}
 use Rattle.bits.specs.Octets.{bitsOf, wholeOctets}
 use Rattle.bits.specs.Format.{basic}
 use Rattle.framing.specs.declared.Verdict.the-variants.{Good}
@@ -21,8 +27,7 @@ use Rattle.records.specs.Happening.{noted}
 use Rattle.records.specs.Record.{supervised, recordsOf}
 use Rattle.units.specs.Indications.{Indication, found, octetEnd, lineIndications}
 use Rattle.units.specs.Fit.{Fits}
-use Rattle.units.specs.Units.{UnitMemory, Effect, effect, unitStateOf, oneMore, unitOf, isFree, handOver, goodCounts, overCounts, goodUnit, closedUnit, octetEffect, effectOf, nextUnitMemory, unitMemoryAfter, happenings}
-use Rattle.indications.specs.Writing.{monitorLimits}
+use Rattle.units.specs.Units.{UnitMemory, Effect, effect, unitStateOf, oneMore, unitOf, isFree, handOver, counted, goodUnit, closedUnit, octetEffect, effectOf, nextUnitMemory, unitMemoryAfter, happenings}
 use Rattle.reception.specs.Line.{Board, boardAfter, lineHappenings, lineRecords}
 use Rattle.reception.proofs.Octets.{single-octet}
 use Rattle.link.specs.Held.{Held}
@@ -50,8 +55,8 @@ abbrev pub over : Settings → UnitMemory → List ℕ → Effect
 over s o os =
     let d = o .units in
     let off : Counting = record { on = false; left = d .counting .left } in
-    effect (handOver (s .k) 0 os o (unitStateOf off emptyMemory (d .slots .next) (overCounts (goodCounts (d .counts)))))
-    (unitOf 0 false os (oneMore (d .counts .good)) false 1 ∷ [])
+    effect (handOver (s .k) statuses.Good os o (unitStateOf off (emptyMemory basic) (d .slots .next) (counted HandedOver (d .counts))))
+    (unitOf kinds.HandedOver false os (oneMore (d .counts .good)) false (eventBit events.HandedOver) ∷ [])
 
 pub handed-over : (s : Settings) (o : UnitMemory) (u : List Bool) (os : List ℕ) → verdictOf basic u ≡ Good → wholeOctets u ≡ os → s .filter ≡ false
     → isFree o ≡ true → effectOf s o (found (closed u)) ≡ over s o os
@@ -81,7 +86,7 @@ module _ (s : Settings) (b : Board) (last : ℕ) (u : List Bool) (fs : List Find
       ap (unitMemoryAfter s (b .unitMemory)) indications
       ∙ ap (λ (x : Effect). unitMemoryAfter s (x .unitMemory) rest) (handed-over s (b .unitMemory) u os good octets off free)
 
-  pool-then : boardAfter s b (last ∷ []) .unitMemory .pool ≡ withSlot (b .unitMemory .pool) slot (filled os)
+  pool-then : boardAfter s b (last ∷ []) .unitMemory .pool ≡ withSlot basic (b .unitMemory .pool) slot (filled basic os)
   pool-then = ap (λ (o : UnitMemory). o .pool) unit-memory-then ∙ rest-same s fs (this .unitMemory) others .pool
 
   descriptors-then : boardAfter s b (last ∷ []) .unitMemory .descriptors ≡ withDescriptor (b .unitMemory .descriptors) slot 0 (length os)
@@ -98,13 +103,13 @@ module _ (s : Settings) (b : Board) (last : ℕ) (u : List Bool) (fs : List Find
         status = ap (λ (x : Board). statusOf (x .unitMemory .descriptors) slot) e ∙ ap (λ (d : List ℕ). statusOf d slot) descriptors-then ∙ written .0;
         size = ap (λ (x : Board). lengthOf (x .unitMemory .descriptors) slot) e ∙ ap (λ (d : List ℕ). lengthOf d slot) descriptors-then ∙ written .1;
         octets =
-            ap (λ (x : Board). slotOf (x .unitMemory .pool) slot) e ∙ ap (λ (p : List ℕ). slotOf p slot) pool-then
-            ∙ slot-written (b .unitMemory .pool) (filled os) slot (filled-length os few) (omega (arith, fits .octets, fits .next));
+            ap (λ (x : Board). slotOf basic (x .unitMemory .pool) slot) e ∙ ap (λ (p : List ℕ). slotOf basic p slot) pool-then
+            ∙ slot-written basic (b .unitMemory .pool) (filled basic os) slot (filled-length basic os few) (omega (arith, fits .octets, fits .next));
       }
 
   -- ---- and its record
   abbrev happening : Happening
-  happening = unitOf 0 false os (oneMore (b .unitMemory .units .counts .good)) false 1
+  happening = unitOf kinds.HandedOver false os (oneMore (b .unitMemory .units .counts .good)) false (eventBit events.HandedOver)
 
   abbrev later : List Happening
   later = happenings s (this .unitMemory) rest

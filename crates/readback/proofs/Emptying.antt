@@ -6,8 +6,10 @@ use mathlib.Core.Logic.{_≢_}
 use native.Mathlib.Decide.{ℕ-discrete}
 use native.Mathlib.Omega.{arith}
 use borrow.Author.Tests.{le-ltb, lt-leb}
+use Rattle.bits.specs.Format.{basic}
+use Rattle.memory.specs.declared.Status.the-variants as statuses
 use Rattle.bits.specs.Machine.{run}
-use Rattle.memory.specs.Lent.{statusOf, lengthOf, withSlot, withDescriptor, emptySlot}
+use Rattle.memory.specs.Lent.{statusOf, lengthOf, withSlot, withDescriptor, emptySlot, statusWord}
 use Rattle.memory.proofs.Slots.{pool-length, descriptors-length, descriptor-written, descriptor-kept, empty-slot-length}
 use Rattle.link.specs.Refusals.{first, readNumber}
 use Rattle.link.specs.Calls.{Outcome, outcome, handAnswer}
@@ -20,14 +22,14 @@ use Rattle.readback.proofs.Using.{lent}
 
 -- a slot that is empty, or holds a unit that can be handed back
 pub data Returnable (descriptors : List ℕ) (slot : ℕ) : Type 0 where
-  empty : statusOf descriptors slot ≡ 32768 → Returnable descriptors slot
+  empty : statusOf descriptors slot ≡ statusWord statuses.Empty → Returnable descriptors slot
   full : statusOf descriptors slot ≡ 0 → lengthOf descriptors slot ≤ 278 → Returnable descriptors slot
 
 -- what handing it back leaves: the slot is empty, every other as it was
 record Emptied (k slot : ℕ) (descriptors : List ℕ) (h : Held) : Type 0 where
   used : InUse h
   size : h .link .settings .k ≡ k
-  this : statusOf (h .descriptors) slot ≡ 32768
+  this : statusOf (h .descriptors) slot ≡ statusWord statuses.Empty
   others : (t : ℕ) → t ≢ slot → (statusOf (h .descriptors) t ≡ statusOf descriptors t) × (lengthOf (h .descriptors) t ≡ lengthOf descriptors t)
 
 -- ---- one slot
@@ -39,11 +41,11 @@ module _ (h : Held) (slot : ℕ) (u : InUse h) (below : slot < h .link .settings
   heldIn o = record { link = o .link; pool = o .pool; descriptors = o .descriptors }
 
   -- refused
-  unread : statusOf (h .descriptors) slot ≡ 32768 → readNumber (h .link) (h .pool) (h .descriptors) slot ≡ 13
+  unread : statusOf (h .descriptors) slot ≡ statusWord statuses.Empty → readNumber (h .link) (h .pool) (h .descriptors) slot ≡ 13
   unfolding readNumber first
   unread e = rw (u .formed, u .opened, u .fits, lt-leb k slot below, e)
 
-  kept : statusOf (h .descriptors) slot ≡ 32768 → Emptied k slot (h .descriptors) (handedBack h slot)
+  kept : statusOf (h .descriptors) slot ≡ statusWord statuses.Empty → Emptied k slot (h .descriptors) (handedBack h slot)
   kept e =
       subst (λ (o : Outcome). Emptied k slot (h .descriptors) (heldIn o))
       (sym (refused-hand-back (h .link) (h .pool) (h .descriptors) slot (λ q. omega (arith, unread e, q))))
@@ -58,12 +60,12 @@ module _ (h : Held) (slot : ℕ) (u : InUse h) (below : slot < h .link .settings
         u .opened,
         u .fits,
         lt-leb k slot below,
-        le-ltb 2 (statusOf (h .descriptors) slot) (omega (arith, e)),
+        e,
         le-ltb 278 (lengthOf (h .descriptors) slot) s,
       )
 
   abbrev then : Outcome
-  then = outcome 0 (h .link) (withSlot (h .pool) slot emptySlot) (withDescriptor (h .descriptors) slot 32768 0)
+  then = outcome 0 (h .link) (withSlot basic (h .pool) slot (emptySlot basic)) (withDescriptor (h .descriptors) slot (statusWord statuses.Empty) 0)
 
   answers : readNumber (h .link) (h .pool) (h .descriptors) slot ≡ 0 → handAnswer (h .link) (h .pool) (h .descriptors) slot ≡ then
   unfolding handAnswer
@@ -80,12 +82,12 @@ module _ (h : Held) (slot : ℕ) (u : InUse h) (below : slot < h .link .settings
               formed = u .formed;
               fits =
                   lent k (then .pool) (then .descriptors)
-                  (pool-length (h .pool) emptySlot slot empty-slot-length (omega (arith, ok .octets, below)) ∙ ok .octets)
-                  (descriptors-length (h .descriptors) slot 32768 0 ∙ ok .words);
+                  (pool-length basic (h .pool) (emptySlot basic) slot (empty-slot-length basic) (omega (arith, ok .octets, below)) ∙ ok .octets)
+                  (descriptors-length (h .descriptors) slot (statusWord statuses.Empty) 0 ∙ ok .words);
             };
         size = refl;
-        this = descriptor-written (h .descriptors) slot 32768 0 (omega (arith, ok .words, below)) .0;
-        others = λ t n. descriptor-kept (h .descriptors) slot t 32768 0 n;
+        this = descriptor-written (h .descriptors) slot (statusWord statuses.Empty) 0 (omega (arith, ok .words, below)) .0;
+        others = λ t n. descriptor-kept (h .descriptors) slot t (statusWord statuses.Empty) 0 n;
       })
 
   one-back : Returnable (h .descriptors) slot → Emptied k slot (h .descriptors) (handedBack h slot)
@@ -102,11 +104,11 @@ still-returnable ds es slot same (full e s) = full (same .0 ∙ e) (omega (arith
 pub record Clear (k : ℕ) (h : Held) : Type 0 where
   pub used : InUse h
   pub size : h .link .settings .k ≡ k
-  pub empty-each : (slot : ℕ) → slot < k → statusOf (h .descriptors) slot ≡ 32768
+  pub empty-each : (slot : ℕ) → slot < k → statusOf (h .descriptors) slot ≡ statusWord statuses.Empty
 
 -- the first n are still to be handed back
 pub all-back : (k n : ℕ) (h : Held) → InUse h → h .link .settings .k ≡ k → n ≤ k → ((slot : ℕ) → slot < n → Returnable (h .descriptors) slot)
-    → ((slot : ℕ) → n ≤ slot → slot < k → statusOf (h .descriptors) slot ≡ 32768) → Clear k (run handedBack h (slotsOf n))
+    → ((slot : ℕ) → n ≤ slot → slot < k → statusOf (h .descriptors) slot ≡ statusWord statuses.Empty) → Clear k (run handedBack h (slotsOf n))
 unfolding slotsOf
 all-back k zero h u e few below above = record { used = u; size = e; empty-each = λ slot b. above slot (omega arith) b }
 all-back k (suc n) h u e few below above =

@@ -11,6 +11,11 @@ use lib.ListN.{length, take, drop, length-drop}
 use lib.Pow.{pow-pos, pow-lt}
 use lib.Seq.{take-all}
 use borrow.Author.Tests.{eq-eqb, le-ltb, lt-leb}
+use Rattle.records.specs.declared.RecordKind.{RecordKind}
+use Rattle.memory.specs.declared.Status.{Status}
+use Rattle.records.specs.declared.RecordKind.the-variants as kinds
+use Rattle.memory.specs.declared.Status.the-variants as statuses
+use Rattle.board.specs.Limits.{monitorLimits}
 use Rattle.bits.specs.Octets.{bitsOf, octetOf, packed, wholeOctets}
 use Rattle.bits.specs.Format.{basic}
 use Rattle.bits.proofs.Digits.{octetOf-lt}
@@ -28,7 +33,6 @@ use Rattle.board.proofs.Past.{none-above, part-above, past-goes, past-ends}
 use Rattle.units.specs.Indications.{Indication, found, octetEnd}
 use Rattle.units.specs.Units.{UnitMemory, Effect, isFree, goodUnit, erroredUnit, closedUnit, octetEffect, effectOf, nextUnitMemory, unitMemoryAfter}
 use Rattle.units.proofs.UnitStates.{each-fate, each-cond, each-verdict}
-use Rattle.indications.specs.Writing.{monitorLimits}
 
 -- ---- from facts to tests
 or-false : (a b : Bool) → a ≡ false → b ≡ false → a || b ≡ false
@@ -49,7 +53,7 @@ count-out Idle s count h = le-ltb 1024 count h
 count-out Off s count h = le-ltb 1024 count h
 
 -- an open link that obeys all this is not malformed
-pub orderly : (l : Link) → l .opened ≡ true → inRange (l .settings) ≡ true → InOrder l → malformed l ≡ false
+pub orderly : (l : Link) → l .opened ≡ true → inRange basic (l .settings) ≡ true → InOrder l → malformed l ≡ false
 unfolding openMalformed lineOut counterOut monitorOut transmitterOut
 orderly l o r i =
     when-open l o
@@ -69,11 +73,11 @@ orderly l o r i =
     (ap not (i .wait)))
 
 -- the settings of an open link that is not malformed are in range
-pub in-range : (l : Link) → l .opened ≡ true → malformed l ≡ false → inRange (l .settings) ≡ true
+pub in-range : (l : Link) → l .opened ≡ true → malformed l ≡ false → inRange basic (l .settings) ≡ true
 unfolding openMalformed
-in-range l o e = go (inRange (l .settings)) refl
+in-range l o e = go (inRange basic (l .settings)) refl
   where
-    go : (b : Bool) → inRange (l .settings) ≡ b → inRange (l .settings) ≡ true
+    go : (b : Bool) → inRange basic (l .settings) ≡ b → inRange basic (l .settings) ≡ true
     go true q = q
     go false q =
         let out : openMalformed l ≡ true = rw (in-order l o e .area, q) in
@@ -109,9 +113,9 @@ Left n x = left (x .unitMemory) ≡ n
 module _ (s : Settings) (o : UnitMemory) where
   left-good : (os : List ℕ) → Left (left o) (goodUnit s o os)
   unfolding goodUnit
-  left-good os = each-fate (Left (left o)) (settled (s .filter) (s .mask) (o .units .memory) os (isFree o) .fate) refl refl refl
+  left-good os = each-fate (Left (left o)) (settled basic (s .filter) (s .mask) (o .units .memory) os (isFree o) .fate) refl refl refl
 
-  left-errored : (status kind : ℕ) (os : List ℕ) → Left (left o) (erroredUnit s o status kind os)
+  left-errored : (status : Status) (kind : RecordKind) (os : List ℕ) → Left (left o) (erroredUnit s o status kind os)
   unfolding erroredUnit
   left-errored status kind os = each-cond (Left (left o)) (isFree o) refl refl
 
@@ -119,7 +123,7 @@ module _ (s : Settings) (o : UnitMemory) where
   unfolding closedUnit
   left-closed u =
       let os = wholeOctets u in
-      each-verdict (Left (left o)) (verdictOf basic u) refl (left-errored 2 4 os) (left-errored 1 3 os) (left-good os)
+      each-verdict (Left (left o)) (verdictOf basic u) refl (left-errored statuses.NotWhole kinds.NotWhole os) (left-errored statuses.CheckWrong kinds.CheckWrong os) (left-good os)
 
   -- it reloads to N, or is one less
   left-end : left o ≤ s .n → cond (eqb (left o) 1) (s .n) (left o - 1) ≤ s .n

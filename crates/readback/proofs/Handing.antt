@@ -9,12 +9,13 @@ use borrow.Author.Tests.{eq-eqb, eqb-true, eqb-false}
 use lib.Bits.{bitOr}
 use lib.Dec.{eqb}
 use lib.ListN.{length}
+use Rattle.memory.specs.declared.Status.the-variants as statuses
 use Rattle.bits.specs.Octets.{bitsOf, lineBits}
 use Rattle.bits.specs.Machine.{outs, outs-append}
 use Rattle.framing.specs.Delimitation.{Receiver, Finding, closed, next, finds, findings}
 use Rattle.sending.specs.Stuffing.{unitBits}
 use Rattle.sending.proofs.Sent.{sent-good, sent-octets}
-use Rattle.memory.specs.Lent.{statusOf, nextSlot}
+use Rattle.memory.specs.Lent.{statusOf, nextSlot, statusWord}
 use Rattle.memory.proofs.Slots.{descriptor-kept}
 use Rattle.monitor.specs.declared.Mode.the-variants.{Off}
 use Rattle.monitor.specs.declared.Limits.{Limits}
@@ -59,8 +60,8 @@ ringOf o = record { next = o .units .slots .next; pool = o .pool; descriptors = 
 pub record Free (k n : ℕ) (x : SlotRing) : Type 0 where
   pub few : n ≤ k
   pub below : 1 ≤ n → x .next < k
-  pub ahead : (j : ℕ) → x .next ≤ j → j < x .next + n → j < k → statusOf (x .descriptors) j ≡ 32768
-  pub round : (j : ℕ) → j + k < x .next + n → statusOf (x .descriptors) j ≡ 32768
+  pub ahead : (j : ℕ) → x .next ≤ j → j < x .next + n → j < k → statusOf (x .descriptors) j ≡ statusWord statuses.Empty
+  pub round : (j : ℕ) → j + k < x .next + n → statusOf (x .descriptors) j ≡ statusWord statuses.Empty
 
 abbrev nextAt : ℕ → SlotRing → SlotRing
 nextAt j x = record { next = j; pool = x .pool; descriptors = x .descriptors; good = x .good }
@@ -98,11 +99,11 @@ free-kept k n x c f = go (eqb (x .next + 1) k) refl
 
 -- ---- one unit
 unit-over : (s : Settings) (o : UnitMemory) (c : List ℕ) → s .filter ≡ false → Allowed (s .m) c
-    → statusOf (o .descriptors) (o .units .slots .next) ≡ 32768
+    → statusOf (o .descriptors) (o .units .slots .next) ≡ statusWord statuses.Empty
     → effectOf s o (found (closed (unitBits c))) ≡ over s o (unitOctets c)
 unit-over s o c e a f =
     handed-over s o (unitBits c) (unitOctets c) (sent-good c (a .least)) (sent-octets c (a .octets)) e
-    (eq-eqb (statusOf (o .descriptors) (o .units .slots .next)) 32768 f)
+    (eq-eqb (statusOf (o .descriptors) (o .units .slots .next)) (statusWord statuses.Empty) f)
 
 -- ---- units in order
 abbrev pub handeds : ℕ → SlotRing → List (List ℕ) → List Happening

@@ -5,9 +5,11 @@ use mathlib.Core.List.{List, [], _∷_}
 use native.Mathlib.Omega.{arith}
 use native.Mathlib.Decide.{ℕ-discrete}
 use lib.ListN.{length, replicate, length-replicate}
+use Rattle.memory.specs.declared.Status.the-variants as statuses
+use Rattle.board.specs.Limits.{recordRoom}
 use Rattle.bits.specs.Octets.{lineBits}
 use Rattle.bits.proofs.Lines.{length-lineBits}
-use Rattle.memory.specs.Lent.{statusOf, withDescriptor}
+use Rattle.memory.specs.Lent.{statusOf, withDescriptor, statusWord}
 use Rattle.memory.proofs.Slots.{empty-each, descriptor-written, descriptor-kept}
 use Rattle.board.specs.declared.Settings.{Settings}
 use Rattle.board.specs.declared.Link.{Link}
@@ -34,7 +36,7 @@ use Rattle.readback.proofs.ReadBack.{waiting, sent-line, all-read-in-ro
 
 -- ---- the slots after at most one unit
 ring-returnable : (k M : ℕ) (x : SlotRing) (us : List (List ℕ)) → length us ≤ 1 → AllAllowed M us → M ≤ 278 → 2 * x .next + 2 ≤ length (x .descriptors)
-    → (slot : ℕ) → statusOf (x .descriptors) slot ≡ 32768 → Returnable (ringAfter k x us .descriptors) slot
+    → (slot : ℕ) → statusOf (x .descriptors) slot ≡ statusWord statuses.Empty → Returnable (ringAfter k x us .descriptors) slot
 unfolding ringAfter
 ring-returnable k M x [] few a m room slot e = empty e
 ring-returnable k M x (u ∷ []) few (more-allowed a none-allowed) m room slot e =
@@ -57,7 +59,7 @@ module _ (k : ℕ) (h : Held) (clear : Clear k h) (x : ℕ) (xs : List ℕ) (ws 
   abbrev t : Round
   t = record { feed = f; back = slotsOf k }
 
-  room : 48 * length (f .octets) ≤ length (f .records)
+  room : recordRoom * length (f .octets) ≤ length (f .records)
   room = omega (arith, length-replicate {A = ℕ} 48 0)
 
   zero-answered : answer h f .number ≡ 0
@@ -73,7 +75,7 @@ module _ (k : ℕ) (h : Held) (clear : Clear k h) (x : ℕ) (xs : List ℕ) (ws 
   fits-one : 1 ≤ h .link .settings .k
   fits-one = can-receive h f zero-answered .order .settings .k .0
 
-  every-empty : (slot : ℕ) → slot < h .link .settings .k → statusOf (h .descriptors) slot ≡ 32768
+  every-empty : (slot : ℕ) → slot < h .link .settings .k → statusOf (h .descriptors) slot ≡ statusWord statuses.Empty
   every-empty slot b = clear .empty-each slot (omega (arith, clear .size))
 
   this : Called h f (lineBits xs) (p .early) (p .late)

@@ -6,6 +6,9 @@ use mathlib.Core.List.{List, [], _∷_, _++_}
 use native.Mathlib.Omega.{arith}
 use lib.Dec.{eqb}
 use lib.ListN.{length, length-append}
+use Rattle.bits.specs.Format.{basic}
+use Rattle.memory.specs.declared.Status.the-variants as statuses
+use Rattle.board.specs.Limits.{monitorLimits}
 use Rattle.bits.specs.Octets.{lineBits}
 use Rattle.bits.specs.Machine.{run, outs-append}
 use Rattle.bits.proofs.Lines.{line-append}
@@ -13,7 +16,7 @@ use Rattle.framing.specs.Delimitation.{Receiver, Finding, closed, next, finds, 
 use Rattle.framing.specs.Representation.{decode}
 use Rattle.sending.specs.Stream.{streamLine}
 use Rattle.sending.specs.Stuffing.{unitBits}
-use Rattle.memory.specs.Lent.{statusOf, withSlot, withDescriptor, emptySlot}
+use Rattle.memory.specs.Lent.{statusOf, withSlot, withDescriptor, emptySlot, statusWord}
 use Rattle.monitor.specs.declared.Mode.the-variants.{Off}
 use Rattle.monitor.specs.declared.Monitor.{Monitor}
 use Rattle.monitor.specs.Monitor.{started}
@@ -25,7 +28,6 @@ use Rattle.records.specs.Record.{supervisionAfter, recordsOf}
 use Rattle.units.specs.Indications.{Indication, found, octetEnd, lineIndications}
 use Rattle.units.specs.Units.{UnitMemory, nextUnitMemory, happens, happenings}
 use Rattle.units.proofs.UnitStates.{found-one}
-use Rattle.indications.specs.Writing.{monitorLimits}
 use Rattle.reception.specs.Line.{Board, boardAfter, lineHappenings, lineRecords}
 use Rattle.link.specs.Refusals.{readNumber}
 use Rattle.link.specs.Calls.{Outcome, outcome, openedLink, handAnswer}
@@ -107,7 +109,7 @@ unfolding handAnswer
 hand-link h slot = go (eqb (readNumber (h .link) (h .pool) (h .descriptors) slot) 0)
   where
     go : (b : Bool)
-        → cond b (outcome 0 (h .link) (withSlot (h .pool) slot emptySlot) (withDescriptor (h .descriptors) slot 32768 0))
+        → cond b (outcome 0 (h .link) (withSlot basic (h .pool) slot (emptySlot basic)) (withDescriptor (h .descriptors) slot (statusWord statuses.Empty) 0))
         (outcome (readNumber (h .link) (h .pool) (h .descriptors) slot) (h .link) (h .pool) (h .descriptors)) .link ≡ h .link
     go true = refl
     go false = refl
@@ -125,7 +127,7 @@ pub record Reads (l : Link) (bits : List Bool) (us : List (List ℕ)) : Type 0 w
   pub coming : findings (l .settings .m) (decode (l .line .state) (l .line .area)) bits ≡ closings us
 
 -- all slots of the ring
-every-free : (k n : ℕ) (x : SlotRing) → n ≤ k → x .next < k → ((slot : ℕ) → slot < k → statusOf (x .descriptors) slot ≡ 32768) → Free k n x
+every-free : (k n : ℕ) (x : SlotRing) → n ≤ k → x .next < k → ((slot : ℕ) → slot < k → statusOf (x .descriptors) slot ≡ statusWord statuses.Empty) → Free k n x
 every-free k n x few below e =
     record { few = few; below = λ l. below; ahead = λ j l h m. e j m; round = λ j h. e j (omega arith) }
 
@@ -213,7 +215,7 @@ module _ (h : Held) (f : Feed) (z : answer h f .number ≡ 0) where
 
   -- of a link that reads a line, with every slot empty and one for each unit
   pub called : (bits later : List Bool) (ws : List (List ℕ)) → Reads (h .link) bits ws → (p : Parts later ws)
-      → ((slot : ℕ) → slot < S .k → statusOf (h .descriptors) slot ≡ 32768) → length (p .early) ≤ S .k
+      → ((slot : ℕ) → slot < S .k → statusOf (h .descriptors) slot ≡ statusWord statuses.Empty) → length (p .early) ≤ S .k
       → Called h f later (p .early) (p .late)
   called bits later ws r p empty few =
       let us = p .early in

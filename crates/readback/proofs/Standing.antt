@@ -18,7 +18,7 @@ use Rattle.units.specs.Fit.{Fits}
 use Rattle.reception.specs.Line.{Board, boardAfter, lineRecords}
 use Rattle.indications.specs.Writing.{holding, indicationsDone}
 use Rattle.reception.proofs.Octets.{ready-kept}
-use Rattle.reception.proofs.Cutting.{board-cut, records-cut, sixteen-each}
+use Rattle.reception.proofs.Cutting.{board-cut, records-cut, records-size}
 use Rattle.input.specs.Progress.{progressOf}
 use Rattle.input.proofs.Receiving.{Receivable, limits, ready}
 use Rattle.link.specs.Held.{Held}
@@ -71,7 +71,7 @@ unfolding boardAfter
 read-back-fed h fs early last before behind content a octets line few opens off least most are free = (
   stands s b last (unitBits content) rest (unitOctets content) finds others good is short off free fits (heldAfter h fs) whole,
   reported s b last (unitBits content) rest (unitOctets content) finds others good is short off free fits (recordsFed h fs) (lineRecords s (board h) early)
-      (omega (arith, sixteen-each s (board h) early)) records,
+      (omega (arith, records-size s (board h) early)) records,
 )
   where
     s : Settings

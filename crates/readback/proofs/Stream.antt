@@ -5,6 +5,7 @@ use mathlib.Core.Bool.{Bool, false}
 use mathlib.Core.List.{List, [], _∷_, _++_}
 use native.Mathlib.Omega.{arith}
 use lib.ListN.{length}
+use Rattle.board.specs.Limits.{monitorLimits}
 use Rattle.bits.specs.Octets.{lineBits}
 use Rattle.sending.specs.Stream.{streamLine}
 use Rattle.memory.specs.Lent.{emptyDescriptors}
@@ -14,7 +15,6 @@ use Rattle.records.specs.declared.Happening.{Happening}
 use Rattle.records.specs.Record.{recordsOf}
 use Rattle.board.specs.declared.Settings.{Settings}
 use Rattle.units.specs.Indications.{lineIndications}
-use Rattle.indications.specs.Writing.{monitorLimits}
 use Rattle.reception.specs.Line.{Board, boardAfter, lineHappenings, lineRecords}
 use Rattle.link.specs.Calls.{Outcome, openedLink}
 use Rattle.link.proofs.Kept.{opened}

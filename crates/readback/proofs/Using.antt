@@ -6,6 +6,8 @@ use mathlib.Core.List.{List, [], _∷_}
 use native.Mathlib.Omega.{arith}
 use lib.ListN.{length, take}
 use borrow.Author.Tests.{eq-eqb, le-ltb, lt-leb}
+use Rattle.bits.specs.Format.{basic}
+use Rattle.board.specs.Limits.{recordRoom}
 use Rattle.bits.specs.Octets.{bitsOf, lineBits}
 use Rattle.bits.proofs.Packing.{packed-nil}
 use Rattle.memory.specs.Lent.{emptyDescriptors, statusOf, lengthOf, slotOf, filled}
@@ -36,7 +38,7 @@ use Rattle.readback.proofs.Feeding.{few-gathered, fed-as-one}
 use Rattle.readback.proofs.Formed.{count-out, orderly, in-range, packed-past, left-most}
 
 -- the memory of k slots
-pub lent : (k : ℕ) (pool descriptors : List ℕ) → length pool ≡ 280 * k → length descriptors ≡ 2 * k → fitsMemory k pool descriptors ≡ true
+pub lent : (k : ℕ) (pool descriptors : List ℕ) → length pool ≡ 280 * k → length descriptors ≡ 2 * k → fitsMemory basic k pool descriptors ≡ true
 unfolding fitsMemory
 lent k pool descriptors p d = rw (eq-eqb (length pool) (280 * k) p, eq-eqb (length descriptors) (2 * k) d)
 
@@ -77,7 +79,7 @@ open-in-use l s pool descriptors e =
     })
 
 -- ---- one receive call
-module _ (h : Held) (f : Feed) (u : InUse h) (few : length (f .octets) ≤ 1024) (room : 48 * length (f .octets) ≤ length (f .records)) where
+module _ (h : Held) (f : Feed) (u : InUse h) (few : length (f .octets) ≤ 1024) (room : recordRoom * length (f .octets) ≤ length (f .records)) where
   abbrev S : Settings
   S = h .link .settings
 
@@ -87,7 +89,7 @@ module _ (h : Held) (f : Feed) (u : InUse h) (few : length (f .octets) ≤ 1024)
   no-fault : receiveNumber (h .link) (f .octets) (h .pool) (h .descriptors) (f .records) ≡ 0
   unfolding receiveNumber first
   no-fault =
-      rw (u .formed, u .opened, u .fits, le-ltb 1024 (length (f .octets)) few, le-ltb (length (f .records)) (48 * length (f .octets)) room)
+      rw (u .formed, u .opened, u .fits, le-ltb 1024 (length (f .octets)) few, le-ltb (length (f .records)) (recordRoom * length (f .octets)) room)
 
   is-received : answer h f ≡ received (h .link) (f .octets) (h .pool) (h .descriptors) (f .records)
   unfolding receiveAnswer
@@ -182,14 +184,14 @@ module _ (h : Held) (slot : ℕ) (unit : List ℕ) (u : InUse h) (below : slot <
         u .opened,
         u .fits,
         lt-leb (h .link .settings .k) slot below,
-        le-ltb 2 (statusOf (h .descriptors) slot) (omega arith),
+        status,
         le-ltb 278 (lengthOf (h .descriptors) slot) (omega arith),
       )
 
-  reads : slotOf (h .pool) slot ≡ filled unit → readPart (h .link) (h .pool) (h .descriptors) slot ≡ unit
+  reads : slotOf basic (h .pool) slot ≡ filled basic unit → readPart (h .link) (h .pool) (h .descriptors) slot ≡ unit
   unfolding readPart
   reads octets =
-      done _ _ _ can-read ∙ ap₂ (λ (n : ℕ) (xs : List ℕ). take n xs) size octets ∙ filled-front unit
+      done _ _ _ can-read ∙ ap₂ (λ (n : ℕ) (xs : List ℕ). take n xs) size octets ∙ filled-front basic unit
 
 pub stands-read : StandsRead
 stands-read h slot unit u below short is = (

@@ -4,10 +4,15 @@ use mathlib.Core.Path.{_≡_}
 use mathlib.Core.Bool.{Bool, true, false}
 use mathlib.Core.List.{List, [], _∷_, _++_}
 use lib.ListN.{length}
+use Rattle.memory.specs.declared.Status.the-variants as statuses
+use Rattle.board.specs.Events.{eventBit}
+use Rattle.records.specs.declared.RecordKind.the-variants as kinds
+use Rattle.board.specs.declared.events.Event.the-variants as events
+use Rattle.bits.specs.Format.{basic}
 use Rattle.bits.specs.Octets.{lineBits, Octets}
 use Rattle.framing.specs.Delimitation.{flagged, receiverAfter}
 use Rattle.sending.specs.Stuffing.{unitLine}
-use Rattle.memory.specs.Lent.{statusOf, lengthOf, slotOf, filled}
+use Rattle.memory.specs.Lent.{statusOf, lengthOf, slotOf, filled, statusWord}
 use Rattle.records.specs.Record.{recordOf}
 use Rattle.units.specs.Units.{unitOf, isFree}
 use Rattle.reception.specs.Line.{boardAfter, lineRecords}
@@ -24,9 +29,9 @@ FedAsOne =
 
 -- a unit stands in a slot: status 0, its length, its octets and zeros after them
 pub record Stands (h : Held) (slot : ℕ) (unit : List ℕ) : Type 0 where
-  pub status : statusOf (h .descriptors) slot ≡ 0
+  pub status : statusOf (h .descriptors) slot ≡ statusWord statuses.Good
   pub size : lengthOf (h .descriptors) slot ≡ length unit
-  pub octets : slotOf (h .pool) slot ≡ filled unit
+  pub octets : slotOf basic (h .pool) slot ≡ filled basic unit
 
 -- a record of kind 0 for it is one of those written, behind whole records
 pub record Reported (records unit : List ℕ) : Type 0 where
@@ -36,7 +41,7 @@ pub record Reported (records unit : List ℕ) : Type 0 where
   pub good : ℕ
   pub count : ℕ
   pub raised : Bool
-  pub is : records ≡ earlier ++ (recordOf (unitOf 0 false unit good false 1) count raised ++ later)
+  pub is : records ≡ earlier ++ (recordOf (unitOf kinds.HandedOver false unit good false (eventBit events.HandedOver)) count raised ++ later)
 
 -- A line is fed to a link with its filter off, in any cutting. Before the unit stand any bits after which the link's receiver has just
 -- read a flag; the octet `last` holds the last bit of the unit's closing flag; the next slot is free before that octet comes. Then the unit

@@ -4,10 +4,11 @@ use mathlib.Core.Path.{_≡_}
 use mathlib.Core.Bool.{Bool, false}
 use mathlib.Core.List.{List, [], _∷_, _++_}
 use lib.ListN.{length}
+use Rattle.memory.specs.declared.Status.the-variants as statuses
 use Rattle.bits.specs.Octets.{lineBits}
 use Rattle.bits.specs.Machine.{run}
 use Rattle.sending.specs.Stream.{streamLine}
-use Rattle.memory.specs.Lent.{statusOf}
+use Rattle.memory.specs.Lent.{statusOf, statusWord}
 use Rattle.board.specs.declared.Settings.{Settings}
 use Rattle.board.specs.declared.Link.{Link}
 use Rattle.link.specs.Calls.{openAnswer}
@@ -33,7 +34,7 @@ octetsOfRounds (t ∷ ts) = t .feed .octets ++ octetsOfRounds ts
 pub data Roomy : Held → List Round → Type 0 where
   none : {h : Held} → Roomy h []
   more : {h : Held} {t : Round} {ts : List Round} → answer h (t .feed) .number ≡ 0
-      → ((slot : ℕ) → slot < h .link .settings .k → statusOf (h .descriptors) slot ≡ 32768)
+      → ((slot : ℕ) → slot < h .link .settings .k → statusOf (h .descriptors) slot ≡ statusWord statuses.Empty)
       → answer h (t .feed) .count ≤ h .link .settings .k → Roomy (roundDone h t) ts → Roomy h (t ∷ ts)
 
 -- the slots of a link

@@ -4,9 +4,14 @@ use Prim.Native.Nat.{ℕ}
 use mathlib.Core.Bool.{false}
 use mathlib.Core.List.{List, _++_}
 use lib.ListN.{length}
+use Rattle.memory.specs.declared.Status.the-variants as statuses
+use Rattle.board.specs.Events.{eventBit}
+use Rattle.records.specs.declared.RecordKind.the-variants as kinds
+use Rattle.board.specs.declared.events.Event.the-variants as events
+use Rattle.bits.specs.Format.{basic}
 use Rattle.bits.specs.Machine.{run, outs}
 use Rattle.fcs.specs.Check.{checkOctets}
-use Rattle.memory.specs.Lent.{withSlot, withDescriptor, filled, nextSlot}
+use Rattle.memory.specs.Lent.{withSlot, withDescriptor, filled, nextSlot, statusWord}
 use Rattle.records.specs.declared.Happening.{Happening}
 use Rattle.records.specs.Record.{recordOf}
 use Rattle.units.specs.Units.{oneMore, unitOf}
@@ -26,13 +31,13 @@ abbrev pub ringWith : ℕ → SlotRing → List ℕ → SlotRing
 ringWith k x content =
     record {
       next = nextSlot k (x .next);
-      pool = withSlot (x .pool) (x .next) (filled (unitOctets content));
-      descriptors = withDescriptor (x .descriptors) (x .next) 0 (length (unitOctets content));
+      pool = withSlot basic (x .pool) (x .next) (filled basic (unitOctets content));
+      descriptors = withDescriptor (x .descriptors) (x .next) (statusWord statuses.Good) (length (unitOctets content));
       good = oneMore (x .good);
     }
 
 abbrev pub handed : SlotRing → List ℕ → Happening
-handed x content = unitOf 0 false (unitOctets content) (oneMore (x .good)) false 1
+handed x content = unitOf kinds.HandedOver false (unitOctets content) (oneMore (x .good)) false (eventBit events.HandedOver)
 
 -- its record, with the monitor off and its count 0
 abbrev pub ringRecord : SlotRing → List ℕ → List ℕ

@@ -4,6 +4,8 @@ use mathlib.Core.Path.{_≡_}
 use mathlib.Core.Bool.{true, false}
 use mathlib.Core.List.{List, [], _∷_}
 use lib.ListN.{length}
+use Rattle.bits.specs.Format.{basic}
+use Rattle.board.specs.Limits.{recordRoom}
 use Rattle.board.specs.declared.Settings.{Settings}
 use Rattle.board.specs.declared.Link.{Link}
 use Rattle.board.specs.Malformed.{malformed}
@@ -19,12 +21,12 @@ use Rattle.readback.specs.Streams.{justOpened}
 pub record InUse (h : Held) : Type 0 where
   pub opened : h .link .opened ≡ true
   pub formed : malformed (h .link) ≡ false
-  pub fits : fitsMemory (h .link .settings .k) (h .pool) (h .descriptors) ≡ true
+  pub fits : fitsMemory basic (h .link .settings .k) (h .pool) (h .descriptors) ≡ true
 
 -- at most 1,024 line octets, and 48 octets of record area for each
 pub data AllSized : List Feed → Type 0 where
   none : AllSized []
-  more : {f : Feed} {fs : List Feed} → length (f .octets) ≤ 1024 → 48 * length (f .octets) ≤ length (f .records) → AllSized fs → AllSized (f ∷ fs)
+  more : {f : Feed} {fs : List Feed} → length (f .octets) ≤ 1024 → recordRoom * length (f .octets) ≤ length (f .records) → AllSized fs → AllSized (f ∷ fs)
 
 -- A booking just opened is in use.
 abbrev pub OpenInUse : Type 0

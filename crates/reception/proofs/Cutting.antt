@@ -4,6 +4,7 @@ use mathlib.Core.Path.{_≡_, refl, sym, ap, ap₂, _∙_}
 use mathlib.Core.List.{List, [], _∷_, _++_}
 use native.Mathlib.Omega.{arith}
 use lib.ListN.{length, length-append}
+use Rattle.board.specs.Limits.{monitorLimits}
 use Rattle.records.specs.declared.Happening.{Happening}
 use Rattle.board.specs.declared.Supervision.{Supervision}
 use Rattle.records.specs.Record.{supervisionAfter, recordsOf}
@@ -13,9 +14,8 @@ use Rattle.board.specs.declared.Settings.{Settings}
 use Rattle.units.specs.Indications.{Indication, octetReceiver, octetIndications, lineReceiver, lineIndications}
 use Rattle.units.specs.Units.{UnitMemory, unitMemoryAfter, happenings}
 use Rattle.units.proofs.UnitStates.{unit-memory-append, happenings-append, sum-after}
-use Rattle.indications.specs.Writing.{monitorLimits}
 use Rattle.reception.specs.Line.{Board, boardAfter, lineHappenings, lineRecords}
-use Rattle.reception.specs.Promises.{BoardCut, HappeningsCut, RecordsCut, SixteenEach, ThreeEach, SumOverLine}
+use Rattle.reception.specs.Promises.{BoardCut, HappeningsCut, RecordsCut, RecordsSize, ThreeEach, SumOverLine}
 use Rattle.reception.proofs.Octets.{happenings-five, three}
 use Rattle.reception.proofs.Lines.{receiver-append, indications-of-both}
 
@@ -44,9 +44,9 @@ records-cut s b xs ys =
     ap (recordsOf (monitorLimits s) (b .supervision)) (happenings-cut s b xs ys)
     ∙ records-append (monitorLimits s) (b .supervision) (lineHappenings s b xs) (lineHappenings s (boardAfter s b xs) ys)
 
-pub sixteen-each : SixteenEach
+pub records-size : RecordsSize
 unfolding lineRecords lineHappenings
-sixteen-each s b line =
+records-size s b line =
     records-length (monitorLimits s) (b .supervision) (happenings s (b .unitMemory) (lineIndications (s .m) (b .receiver) line))
     (happenings-five s (lineIndications (s .m) (b .receiver) line) (b .unitMemory))
 

@@ -5,6 +5,7 @@ use mathlib.Core.List.{List, [], _∷_, _++_}
 use native.Mathlib.Omega.{arith}
 use lib.ListN.{length, take, getD, length-append}
 use lib.Seq.{length-take-le, take-suc, take-length}
+use Rattle.board.specs.Limits.{recordOctets, recordRoom, monitorLimits}
 use Rattle.bits.specs.Machine.{run-append, outs-append}
 use Rattle.framing.specs.declared.Line.{Line}
 use Rattle.framing.specs.Delimitation.{Receiver}
@@ -14,7 +15,7 @@ use Rattle.board.specs.declared.Settings.{Settings}
 use Rattle.units.specs.Indications.{Indication, octetReceiver, octetIndications, lineReceiver, lineIndications}
 use Rattle.indications.specs.declared.Progress.{Progress}
 use Rattle.reception.specs.declared.Passed.{Passed}
-use Rattle.indications.specs.Writing.{monitorLimits, Written, holding, indicationsDone, Able}
+use Rattle.indications.specs.Writing.{Written, holding, indicationsDone, Able}
 use Rattle.reception.specs.Writing.{StateInRange, LineTaken}
 use Rattle.indications.proofs.Recording.{indications-none, indications-append}
 use Rattle.reception.proofs.Octets.{happenings-five, indications-length}
@@ -76,11 +77,11 @@ module _ (s : Settings) (line : Line) (area : List ℕ) (w : Written) where
 
   -- room for the three records of the next octet
   pub room-left : (octets : List ℕ) (at : ℕ) → at < length octets → (r : Passed) (area′ : List ℕ) (w′ : Written)
-      → 16 * w .count + 48 * length octets ≤ length (w .out) → LineTaken s line area (take at octets) w r area′ w′ → 16 * w′ .count + 48 ≤ length (w′ .out)
+      → recordOctets * w .count + recordRoom * length octets ≤ length (w .out) → LineTaken s line area (take at octets) w r area′ w′ → recordOctets * w′ .count + recordRoom ≤ length (w′ .out)
   room-left octets at h r area′ w′ k a =
       let n : length (take at octets) ≡ at = length-take-le at octets (omega arith) in
       omega (arith, a .few, same-out (take at octets) r area′ w′ a)
 
 pub next-able : (s : Settings) (p : Progress) (pool descriptors out : List ℕ) → (7 ≤ s .m) × (s .m ≤ 278) → LimitsInRange (monitorLimits s)
-    → StateInRange s (holding p pool descriptors out) → 16 * p .count + 48 ≤ length out → Able s p pool descriptors out
+    → StateInRange s (holding p pool descriptors out) → recordOctets * p .count + recordRoom ≤ length out → Able s p pool descriptors out
 next-able s p pool descriptors out m l r k = record { longest = m; limits = l; monitor = r .monitor; fits = r .fits; room = omega arith }

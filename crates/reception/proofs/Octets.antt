@@ -7,6 +7,7 @@ use native.Mathlib.Nat.{add-zero}
 use native.Mathlib.Omega.{arith}
 use lib.ListN.{length, take, length-append}
 use lib.Seq.{sets, length-sets, length-take-le}
+use Rattle.board.specs.Limits.{recordOctets, recordRoom, monitorLimits}
 use Rattle.bits.specs.Octets.{bitsOf, lineBits, packed}
 use Rattle.bits.proofs.Digits.{length-bitsOf}
 use Rattle.bits.proofs.Lines.{length-lineBits}
@@ -34,7 +35,7 @@ use Rattle.units.specs.Promises.{AtMostLongest}
 use Rattle.units.proofs.UnitStates.{fit-kept, found-one, one-at-most, first-fives, happenings-append}
 use Rattle.indications.specs.declared.Progress.{Progress}
 use Rattle.reception.specs.declared.Passed.{Passed}
-use Rattle.indications.specs.Writing.{monitorLimits, Written, holding, indicationsDone, Able, StandsIn, Shown, areaAfter}
+use Rattle.indications.specs.Writing.{Written, holding, indicationsDone, Able, StandsIn, Shown, areaAfter}
 use Rattle.reception.specs.Writing.{StateInRange, LineTaken}
 use Rattle.indications.proofs.Recording.{indications-none, indications-append}
 
@@ -86,7 +87,7 @@ founds-count s w fs = ap (λ (n : ℕ). w .count + n) (found-count s fs (w .unit
 
 pub indications-length : (s : Settings) (w : Written) (ms : List Indication) → length (indicationsDone s w ms .out) ≡ length (w .out)
 unfolding indicationsDone
-indications-length s w ms = length-sets (w .out) (16 * w .count) (recordsOf (monitorLimits s) (w .supervision) (happenings s (w .unitMemory) ms))
+indications-length s w ms = length-sets (w .out) (recordOctets * w .count) (recordsOf (monitorLimits s) (w .supervision) (happenings s (w .unitMemory) ms))
 
 -- ---- between two findings of an octet
 pub record Between (s : Settings) (line : Line) (area₀ : List ℕ) (octet : ℕ) (w : Written) (area pool descriptors out : List ℕ) (cur : Line) (rest left : ℕ)
@@ -99,12 +100,12 @@ pub record Between (s : Settings) (line : Line) (area₀ : List ℕ) (octet : �
   pub receiver : receiverAfter (s .m) (decode cur area) (bitsOf left rest) ≡ octetReceiver (s .m) (decode line area₀) octet
   pub still : indicationsDone s (holding q pool descriptors out) (map found (findings (s .m) (decode cur area) (bitsOf left rest)))
       ≡ indicationsDone s w (map found (findings (s .m) (decode line area₀) (bitsOf 8 octet)))
-  pub room : 16 * (q .count + length (findings (s .m) (decode cur area) (bitsOf left rest))) + 16 ≤ length out
+  pub room : recordOctets * (q .count + length (findings (s .m) (decode cur area) (bitsOf left rest))) + recordOctets ≤ length out
   pub same : length out ≡ length (w .out)
 
 -- "three records ... is the most that one octet can bring"
 pub at-start : (s : Settings) (line : Line) (area pool descriptors out : List ℕ) (octet : ℕ) (p : Progress)
-    → Able s p pool descriptors out → wellFormed (s .m) line area → 16 * p .count + 48 ≤ length out
+    → Able s p pool descriptors out → wellFormed (s .m) line area → recordOctets * p .count + recordRoom ≤ length out
     → Between s line area octet (holding p pool descriptors out) area pool descriptors out line octet 8 p
 at-start s line area pool descriptors out octet p a h r =
     record {

@@ -1,6 +1,7 @@
 -- A run of line octets: the receiver gives indications, the unit state happenings, the supervision records.
 use Prim.Native.Nat.{ℕ}
 use mathlib.Core.List.{List}
+use Rattle.board.specs.Limits.{monitorLimits}
 use Rattle.board.specs.declared.Supervision.{Supervision}
 use Rattle.records.specs.Record.{supervisionAfter, recordsOf}
 use Rattle.framing.specs.Delimitation.{Receiver}
@@ -8,7 +9,6 @@ use Rattle.board.specs.declared.Settings.{Settings}
 use Rattle.units.specs.Indications.{lineReceiver, lineIndications}
 use Rattle.records.specs.declared.Happening.{Happening}
 use Rattle.units.specs.Units.{UnitMemory, unitMemoryAfter, happenings}
-use Rattle.indications.specs.Writing.{monitorLimits}
 
 -- the whole of a receiver's state, the lent memory included
 pub record Board : Type 0 where

@@ -3,6 +3,7 @@ use Prim.Native.Nat.{ℕ, _*_, _≤_}
 use mathlib.Core.Path.{_≡_}
 use mathlib.Core.List.{List, _++_}
 use lib.ListN.{length}
+use Rattle.board.specs.Limits.{recordOctets}
 use Rattle.board.specs.declared.Settings.{Settings}
 use Rattle.units.specs.Promises.{Sums}
 use Rattle.reception.specs.Line.{Board, boardAfter, lineHappenings, lineRecords}
@@ -21,8 +22,8 @@ abbrev pub RecordsCut : Type 0
 RecordsCut = (s : Settings) (b : Board) (xs ys : List ℕ) → lineRecords s b (xs ++ ys) ≡ lineRecords s b xs ++ lineRecords s (boardAfter s b xs) ys
 
 -- Sixteen octets come for each thing that happened,
-abbrev pub SixteenEach : Type 0
-SixteenEach = (s : Settings) (b : Board) (line : List ℕ) → length (lineRecords s b line) ≡ 16 * length (lineHappenings s b line)
+abbrev pub RecordsSize : Type 0
+RecordsSize = (s : Settings) (b : Board) (line : List ℕ) → length (lineRecords s b line) ≡ recordOctets * length (lineHappenings s b line)
 
 -- "At most three records come from one line octet",
 abbrev pub ThreeEach : Type 0

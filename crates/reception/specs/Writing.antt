@@ -3,13 +3,14 @@ use Prim.Native.Nat.{ℕ, _+_, _*_, _≤_}
 use mathlib.Core.Path.{_≡_}
 use mathlib.Core.List.{List}
 use lib.ListN.{length}
+use Rattle.board.specs.Limits.{monitorLimits}
 use Rattle.records.specs.Promises.{MonitorInRange}
 use Rattle.framing.specs.declared.Line.{Line}
 use Rattle.framing.specs.Representation.{decode, wellFormed}
 use Rattle.board.specs.declared.Settings.{Settings}
 use Rattle.units.specs.Fit.{Fits}
 use Rattle.units.specs.Indications.{lineReceiver, lineIndications}
-use Rattle.indications.specs.Writing.{monitorLimits, Written, indicationsDone}
+use Rattle.indications.specs.Writing.{Written, indicationsDone}
 use Rattle.reception.specs.declared.Passed.{Passed}
 
 -- what `Able` asks, of what the code holds, its room apart

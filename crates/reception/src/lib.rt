@@ -5,9 +5,10 @@ use indications::Progress;
 ghost use mathlib.Core.List.{[], _∷_};
 ghost use Prim.Native.Nat.{_+_, _*_, _≤_};
 ghost use lib.ListN.{length};
+ghost use Rattle.board.specs.Limits.{recordOctets, recordRoom, monitorLimits};
 ghost use Rattle.records.specs.Promises.{LimitsInRange};
 ghost use Rattle.framing.specs.Representation.{wellFormed};
-ghost use Rattle.indications.specs.Writing.{monitorLimits, Able, holding};
+ghost use Rattle.indications.specs.Writing.{Able, holding};
 ghost use Rattle.reception.specs.Writing.{StateInRange, LineTaken};
 
 // Unit state, monitor and records written, with the receiver's small state.
@@ -28,7 +29,7 @@ fn take_octet(
     out: &mut [u8],
 ) -> Passed
     requires { ⌜ Able s p (now pool) (now descriptors) (now out) ⌝ }
-    requires { ⌜ wellFormed (s .m) line (now area) × (16 * p .count + 48 ≤ length (now out)) ⌝ }
+    requires { ⌜ wellFormed (s .m) line (now area) × (recordOctets * p .count + recordRoom ≤ length (now out)) ⌝ }
     ensures { λ r. ⌜ LineTaken s line (now (area .entry)) (octet ∷ []) (holding p (now (pool .entry)) (now (descriptors .entry)) (now (out .entry))) r (now (area .exit)) (holding (r .progress) (now (pool .exit)) (now (descriptors .exit)) (now (out .exit))) ⌝ }
 {
     let mut cur = line;
@@ -71,7 +72,7 @@ pub fn take_line(
     out: &mut [u8],
 ) -> Passed
     requires { ⌜ (7 ≤ s .m) × (s .m ≤ 278) × LimitsInRange (monitorLimits s) × StateInRange s (holding p (now pool) (now descriptors) (now out)) ⌝ }
-    requires { ⌜ wellFormed (s .m) line (now area) × (16 * p .count + 48 * length (now octets) ≤ length (now out)) × (length (now octets) ≤ 1024) ⌝ }
+    requires { ⌜ wellFormed (s .m) line (now area) × (recordOctets * p .count + recordRoom * length (now octets) ≤ length (now out)) × (length (now octets) ≤ 1024) ⌝ }
     ensures { λ r. ⌜ LineTaken s line (now (area .entry)) (now (octets .entry)) (holding p (now (pool .entry)) (now (descriptors .entry)) (now (out .entry))) r (now (area .exit)) (holding (r .progress) (now (pool .exit)) (now (descriptors .exit)) (now (out .exit))) ⌝ }
 {
     let mut cur = line;

@@ -5,6 +5,7 @@ use mathlib.Core.List.{List, [], _∷_, _++_}
 use native.Mathlib.Omega.{arith}
 use lib.ListN.{length, getD, length-append}
 use lib.Seq.{sets, getD-append-add}
+use Rattle.board.specs.Limits.{recordOctets}
 use Rattle.bits.specs.Octets.{worth}
 use Rattle.bits.specs.Machine.{run-append, outs-append}
 use Rattle.monitor.specs.declared.Limits.{Limits}
@@ -13,14 +14,14 @@ use Rattle.board.specs.declared.Supervision.{Supervision}
 use Rattle.records.specs.declared.Noted.{Noted}
 use Rattle.records.specs.Happening.{noted}
 use Rattle.records.specs.Record.{recordOf, supervised, recorded, supervisionAfter, recordsOf}
-use Rattle.records.specs.Promises.{none, more, SixteenOctets, OctetThirteen, CountAfter, NoEvent, SupervisionAppend, RecordsAppend, RecordsLength, RecordByRecord}
+use Rattle.records.specs.Promises.{none, more, RecordSize, OctetThirteen, CountAfter, NoEvent, SupervisionAppend, RecordsAppend, RecordsLength, RecordByRecord}
 use Rattle.bits.proofs.Writing.{sets-append}
 use Rattle.records.proofs.Writing.{ending}
 use Rattle.records.proofs.Noting.{noted-none}
 
-pub sixteen-octets : SixteenOctets
+pub record-size : RecordSize
 unfolding recordOf
-sixteen-octets h count raised e =
+record-size h count raised e =
     let r : length (ending h raised) ≡ 8 = omega (arith, length-append (h .first) (worth raised ∷ 0 ∷ 0 ∷ [])) in
     omega arith
 
@@ -46,8 +47,8 @@ unfolding recordsOf supervisionAfter
 records-append l w xs ys = outs-append (supervised l) (recorded l) xs ys w
 
 -- the same of a happening's own record
-sixteen : (l : Limits) (w : Supervision) (h : Happening) → length (h .first) ≡ 5 → length (recorded l w h) ≡ 16
-sixteen l w h e = sixteen-octets h _ _ e
+sixteen : (l : Limits) (w : Supervision) (h : Happening) → length (h .first) ≡ 5 → length (recorded l w h) ≡ recordOctets
+sixteen l w h e = record-size h _ _ e
 
 pub records-length : RecordsLength
 unfolding recordsOf
@@ -59,7 +60,7 @@ records-length l w (h ∷ hs) (more e es) =
 pub record-by-record : RecordByRecord
 unfolding recordsOf
 record-by-record l w h hs out n e =
-    let k : 16 * n + length (recorded l w h) ≡ 16 * (n + 1) = omega (arith, sixteen l w h e) in
+    let k : recordOctets * n + length (recorded l w h) ≡ recordOctets * (n + 1) = omega (arith, sixteen l w h e) in
     sym
-    (sets-append (recorded l w h) (recordsOf l (supervised l w h) hs) out (16 * n)
-    ∙ ap (λ (j : ℕ). sets (sets out (16 * n) (recorded l w h)) j (recordsOf l (supervised l w h) hs)) k)
+    (sets-append (recorded l w h) (recordsOf l (supervised l w h) hs) out (recordOctets * n)
+    ∙ ap (λ (j : ℕ). sets (sets out (recordOctets * n) (recorded l w h)) j (recordsOf l (supervised l w h) hs)) k)

@@ -10,6 +10,7 @@ use lib.Seq.{sets}
 use Rattle.bits.specs.Octets.{worth}
 use Rattle.bits.proofs.Writing.{sets-append}
 use Rattle.records.specs.declared.Happening.{Happening}
+use Rattle.records.specs.Kinds.{kindNumber}
 use Rattle.records.specs.Record.{low-high, recordOf}
 
 -- as many octets from place k on, read one by one
@@ -54,15 +55,18 @@ octets-way l first at raised p e q h =
 
 -- the first eight octets of a record, and the last eight
 abbrev beginning : Happening → ℕ → List ℕ
-beginning h count = (h .kind ∷ worth (h .lost) ∷ []) ++ (low-high (h .length) ++ (low-high count ++ low-high (h .good)))
+beginning h count = (kindNumber (h .kind) ∷ worth (h .lost) ∷ []) ++ (low-high (h .length) ++ (low-high count ++ low-high (h .good)))
 
 abbrev pub ending : Happening → Bool → List ℕ
 ending h raised = h .first ++ (worth raised ∷ 0 ∷ 0 ∷ [])
 
 pub record-way : (l : List ℕ) (at : ℕ) (h : Happening) (count : ℕ) (raised : Bool) {l₁ l₂ : List ℕ}
-    → l₁ ≡ sets l at (beginning h count)
+    → {kind : ℕ} → kind ≡ kindNumber (h .kind)
+    → l₁ ≡ sets l at ((kind ∷ worth (h .lost) ∷ []) ++ (low-high (h .length) ++ (low-high count ++ low-high (h .good))))
     → l₂ ≡ sets l₁ (at + 8) (ending h raised)
     → l₂ ≡ sets l at (recordOf h count raised)
 unfolding recordOf
-record-way l at h count raised p q =
-    q ∙ ap (λ (x : List ℕ). sets x (at + 8) (ending h raised)) p ∙ sym (sets-append (beginning h count) (ending h raised) l at)
+record-way l at h count raised k p q =
+    q
+    ∙ ap (λ (x : List ℕ). sets x (at + 8) (ending h raised))
+    (p ∙ ap (λ (n : ℕ). sets l at ((n ∷ worth (h .lost) ∷ []) ++ (low-high (h .length) ++ (low-high count ++ low-high (h .good))))) k) ∙ sym (sets-append (beginning h count) (ending h raised) l at)

@@ -8,6 +8,8 @@ use Rattle.monitor.specs.declared.Alarm.the-variants.{Nothing, Suer, Aerm}
 use Rattle.monitor.specs.declared.Limits.{Limits}
 use Rattle.monitor.specs.declared.Stepped.{Stepped}
 use Rattle.monitor.specs.Monitor.{step}
+use Rattle.board.specs.declared.events.Event.the-variants as events
+use Rattle.board.specs.Events.{eventBit}
 use Rattle.records.specs.declared.Happening.{Happening}
 use Rattle.board.specs.declared.Supervision.{Supervision}
 use Rattle.records.specs.declared.Noted.{Noted}
@@ -15,8 +17,8 @@ use Rattle.records.specs.declared.Noted.{Noted}
 -- "Event bits, kept until cleared: [..] 2 SUER, 3 AERM"
 abbrev pub alarmBit : Alarm → ℕ
 alarmBit Nothing = 0
-alarmBit Suer = 4
-alarmBit Aerm = 8
+alarmBit Suer = eventBit events.Suer
+alarmBit Aerm = eventBit events.Aerm
 
 -- "13 one if this event raised SUER or AERM"
 abbrev pub raises : Alarm → Bool

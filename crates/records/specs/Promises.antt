@@ -5,6 +5,7 @@ use mathlib.Core.Bool.{Bool, false}
 use mathlib.Core.List.{List, [], _∷_, _++_}
 use lib.ListN.{length, getD, take, drop}
 use lib.Seq.{sets}
+use Rattle.board.specs.Limits.{recordOctets}
 use Rattle.bits.specs.Octets.{worth}
 use Rattle.monitor.specs.declared.Mode.{Mode}
 use Rattle.monitor.specs.declared.Mode.the-variants.{Off, Failure, Alignment, Idle}
@@ -22,8 +23,8 @@ pub data FirstFive : List Happening → Type 0 where
   more : {h : Happening} {hs : List Happening} → length (h .first) ≡ 5 → FirstFive hs → FirstFive (h ∷ hs)
 
 -- "Sixteen octets each"
-abbrev pub SixteenOctets : Type 0
-SixteenOctets = (h : Happening) (count : ℕ) (raised : Bool) → length (h .first) ≡ 5 → length (recordOf h count raised) ≡ 16
+abbrev pub RecordSize : Type 0
+RecordSize = (h : Happening) (count : ℕ) (raised : Bool) → length (h .first) ≡ 5 → length (recordOf h count raised) ≡ recordOctets
 
 -- "13 one if this event raised SUER or AERM"
 abbrev pub OctetThirteen : Type 0
@@ -52,13 +53,13 @@ RecordsAppend =
     → recordsOf l w (xs ++ ys) ≡ recordsOf l w xs ++ recordsOf l (supervisionAfter l w xs) ys
 
 abbrev pub RecordsLength : Type 0
-RecordsLength = (l : Limits) (w : Supervision) (hs : List Happening) → FirstFive hs → length (recordsOf l w hs) ≡ 16 * length hs
+RecordsLength = (l : Limits) (w : Supervision) (hs : List Happening) → FirstFive hs → length (recordsOf l w hs) ≡ recordOctets * length hs
 
 -- One record written at its place, then those after it, is all of them written there.
 abbrev pub RecordByRecord : Type 0
 RecordByRecord =
     (l : Limits) (w : Supervision) (h : Happening) (hs : List Happening) (out : List ℕ) (n : ℕ) → length (h .first) ≡ 5
-    → sets (sets out (16 * n) (recorded l w h)) (16 * (n + 1)) (recordsOf l (supervised l w h) hs) ≡ sets out (16 * n) (recordsOf l w (h ∷ hs))
+    → sets (sets out (recordOctets * n) (recorded l w h)) (recordOctets * (n + 1)) (recordsOf l (supervised l w h) hs) ≡ sets out (recordOctets * n) (recordsOf l w (h ∷ hs))
 
 -- ---- Numbers in range
 -- T, D and A, each 1 to 1,024

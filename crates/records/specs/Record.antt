@@ -7,6 +7,7 @@ use Rattle.bits.specs.Machine.{run, outs}
 use Rattle.monitor.specs.declared.Limits.{Limits}
 use Rattle.records.specs.declared.Happening.{Happening}
 use Rattle.board.specs.declared.Supervision.{Supervision}
+use Rattle.records.specs.Kinds.{kindNumber}
 use Rattle.records.specs.Happening.{noted}
 
 -- a number of sixteen bits as two octets
@@ -17,7 +18,7 @@ low-high n = n % 256 ∷ n / 256 ∷ []
 -- filled; 13 one if this event raised SUER or AERM; 14-15 zero"
 unfoldable pub recordOf : Happening → ℕ → Bool → List ℕ
 recordOf h count raised =
-    (h .kind ∷ worth (h .lost) ∷ [])
+    (kindNumber (h .kind) ∷ worth (h .lost) ∷ [])
     ++ (low-high (h .length) ++ (low-high count ++ (low-high (h .good) ++ (h .first ++ (worth raised ∷ 0 ∷ 0 ∷ [])))))
 
 -- the supervision after a happening, and its record

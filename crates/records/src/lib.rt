@@ -1,4 +1,5 @@
 // What happens on a link, what the monitor makes of it, and its record of sixteen octets.
+use board::Link;
 use board::Supervision;
 use monitor::Alarm;
 use monitor::Limits;
@@ -6,16 +7,30 @@ ghost use mathlib.Core.Path.{_≡_};
 ghost use mathlib.Core.List.{[], _∷_, _++_};
 ghost use Prim.Native.Nat.{_+_, _*_, _≤_, _<_};
 ghost use Rattle.bits.specs.Octets.{worth};
+ghost use Rattle.board.specs.Limits.{recordOctets};
 ghost use lib.ListN.{length};
 ghost use lib.Seq.{sets};
 ghost use Rattle.records.specs.Happening.{alarmBit, noted};
+ghost use Rattle.records.specs.Kinds.{kindNumber};
 ghost use Rattle.records.specs.Record.{low-high, recordOf};
+
+// What a record tells of.
+pub enum RecordKind {
+    HandedOver,
+    Dropped,
+    Lost,
+    CheckWrong,
+    NotWhole,
+    Short,
+    Long,
+    Abort,
+    Tick,
+}
 
 // One thing that happens: its record's kind, whether a unit was lost for want of a slot, the unit's length and first five octets, the
 // good count then, whether the monitors take it as an event and as an errored one, and the event bits that it sets by itself.
-#[repr(C)]
 pub struct Happening {
-    pub kind: u8,
+    pub kind: RecordKind,
     pub lost: bool,
     pub length: u16,
     pub first: [u8; 5],
@@ -37,8 +52,8 @@ fn alarm_bit(alarm: Alarm) -> u16
 {
     match alarm {
         Alarm::Nothing => 0,
-        Alarm::Suer => 4,
-        Alarm::Aerm => 8,
+        Alarm::Suer => Link::EVENT_SUER,
+        Alarm::Aerm => Link::EVENT_AERM,
     }
 }
 
@@ -71,14 +86,33 @@ pub fn note(limits: Limits, supervision: Supervision, h: Happening) -> Noted
     }
 }
 
+// A kind's number in a record.
+fn kind_number(kind: RecordKind) -> u8
+    ensures { λ r. ⌜ r ≡ kindNumber kind ⌝ }
+{
+    match kind {
+        RecordKind::HandedOver => 0,
+        RecordKind::Dropped => 1,
+        RecordKind::Lost => 2,
+        RecordKind::CheckWrong => 3,
+        RecordKind::NotWhole => 4,
+        RecordKind::Short => 5,
+        RecordKind::Long => 6,
+        RecordKind::Abort => 7,
+        RecordKind::Tick => 8,
+    }
+}
+
 // Writes the record of a happening at place n of the record area.
 pub fn write_record(records: &mut [u8], n: usize, h: Happening, count: u16, raised: bool)
-    requires { ⌜ 16 * n + 16 ≤ length (now records) ⌝ }
-    ensures { λ _. ⌜ now (records .exit) ≡ sets (now (records .entry)) (16 * n) (recordOf h count raised) ⌝ }
+    requires { ⌜ recordOctets * n + recordOctets ≤ length (now records) ⌝ }
+    ensures { λ _. ⌜ now (records .exit) ≡ sets (now (records .entry)) (recordOctets * n) (recordOf h count raised) ⌝ }
 {
-    let at = 16 * n;
+    let at = Link::RECORD * n;
     let first = h.first;
-    put_numbers(&mut *records, at, h.kind, h.lost, h.length, count, h.good);
+    let kind = h.kind;
+    let number = kind_number(kind);
+    put_numbers(&mut *records, at, number, h.lost, h.length, count, h.good);
     put_octets(&mut *records, at + 8, first, raised);
 }
 

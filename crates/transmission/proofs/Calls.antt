@@ -9,6 +9,7 @@ use borrow.Author.Tests.{eqb-true, eqb-false}
 use lib.Dec.{eqb}
 use lib.ListN.{length, take, drop, length-append}
 use lib.Seq.{sets-eq, length-sets, take-at, drop-at}
+use Rattle.bits.specs.Format.{basic}
 use Rattle.bits.specs.Octets.{lineBits, wholeOctets}
 use Rattle.bits.proofs.Digits.{all-back}
 use Rattle.bits.proofs.Whole.{length-whole}
@@ -91,8 +92,8 @@ few-fill : (l : Link) → InOrder l → length (l .transmitter .last) ≡ 2 → 
 unfolding fillOut
 few-fill l o h = go (l .transmitter .sent)
   where
-    go : (b : Bool) → length (octetsOut (sender (l .transmitter)) (cond b (unitOut (l .transmitter) (fillContent (l .transmitter .last))) flag)) ≤ 335
-    go true = few-unit l (fillContent (l .transmitter .last)) o (omega (arith, length-append (l .transmitter .last) (0 ∷ [])))
+    go : (b : Bool) → length (octetsOut (sender (l .transmitter)) (cond b (unitOut (l .transmitter) (fillContent basic (l .transmitter .last))) flag)) ≤ 335
+    go true = few-unit l (fillContent basic (l .transmitter .last)) o (omega (arith, length-append (l .transmitter .last) (0 ∷ [])))
     go false = few-flag l o
 
 pub record Room (l : Link) (s : Sending) : Type 0 where

@@ -5,6 +5,7 @@ use mathlib.Core.Bool.{Bool, true, false}
 use mathlib.Core.List.{List, [], _∷_, _++_, append-assoc, append-nil}
 use native.Mathlib.Omega.{arith}
 use lib.ListN.{length, take}
+use Rattle.bits.specs.Format.{basic}
 use Rattle.bits.specs.Octets.{bitsOf, lineBits}
 use Rattle.bits.specs.Machine.{outs}
 use Rattle.bits.proofs.Lines.{line-append}
@@ -77,7 +78,7 @@ sent-after l content output p =
     let e = then-is l (send content output) p in
     record { flagged = ap (λ (t : Transmitter). t .flagged) e; sent = ap (λ (t : Transmitter). t .sent) e; is = ap (λ (t : Transmitter). t .last) e }
 
-fill-next : (last output : List ℕ) (ss : List Sending) → length last ≡ 2 → contentsFrom last (fill output ∷ ss) ≡ fillContent last ∷ contentsFrom last ss
+fill-next : (last output : List ℕ) (ss : List Sending) → length last ≡ 2 → contentsFrom last (fill output ∷ ss) ≡ fillContent basic last ∷ contentsFrom last ss
 unfolding contentsFrom
 fill-next [] output ss h = absurd (omega arith)
 fill-next (x ∷ last) output ss h = refl
@@ -99,7 +100,7 @@ after-content l (fill output ∷ ss) last h t (more z a) =
       sent = ap (λ (x : Transmitter). x .sent) e ∙ t .sent;
       is = ap (λ (x : Transmitter). x .last) e ∙ t .is;
     } in
-    let bits : fillOut (l .transmitter) ≡ unitLine (fillContent last) = rw (t .sent, t .flagged, t .is) in
+    let bits : fillOut (l .transmitter) ≡ unitLine (fillContent basic last) = rw (t .sent, t .flagged, t .is) in
     ap₂ (λ (xs ys : List Bool). xs ++ ys) bits (after-content (sentOn l (fill output)) ss last h t′ a)
     ∙ ap unitsLine (sym (fill-next last output ss h))
 

@@ -4,6 +4,7 @@ use mathlib.Core.Path.{_≡_}
 use mathlib.Core.Bool.{Bool}
 use mathlib.Core.List.{List, [], _∷_}
 use lib.ListN.{take}
+use Rattle.bits.specs.Format.{basic}
 use Rattle.bits.specs.Machine.{run, outs}
 use Rattle.sending.specs.Packing.{waiting}
 use Rattle.board.specs.declared.Link.{Link}
@@ -54,9 +55,9 @@ fillsFirst (fill output ∷ ss) = suc (fillsFirst ss)
 -- the contents of the units that are sent, where the last content began with these two octets, or none was sent
 unfoldable pub contentsFrom : List ℕ → List Sending → List (List ℕ)
 contentsFrom last [] = []
-contentsFrom last (send content output ∷ ss) = content ∷ contentsFrom (take 2 content) ss
+contentsFrom last (send content output ∷ ss) = content ∷ contentsFrom (take (basic .numbers) content) ss
 contentsFrom [] (fill output ∷ ss) = contentsFrom [] ss
-contentsFrom (x ∷ last) (fill output ∷ ss) = fillContent (x ∷ last) ∷ contentsFrom (x ∷ last) ss
+contentsFrom (x ∷ last) (fill output ∷ ss) = fillContent basic (x ∷ last) ∷ contentsFrom (x ∷ last) ss
 
 abbrev pub contents : List Sending → List (List ℕ)
 contents = contentsFrom []

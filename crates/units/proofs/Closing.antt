@@ -18,6 +18,8 @@ use Rattle.framing.specs.declared.Verdict.the-variants.{Short, NotWhole, CheckW
 use Rattle.framing.specs.Verdict.{verdictOf}
 use Rattle.board.specs.declared.Settings.{Settings}
 use Rattle.units.specs.declared.Taken.{Taken}
+use Rattle.memory.specs.declared.Status.the-variants as statuses
+use Rattle.records.specs.declared.RecordKind.the-variants as kinds
 use Rattle.units.specs.Units.{UnitMemory, unitMemory, effect, shortTaken, goodUnit, erroredUnit, closedUnit}
 
 -- a good unit has 40 bits or more
@@ -48,11 +50,11 @@ module _ (area : List ℕ) (bits : ℕ) (h : bits ≤ 2224) (e : area ≡ packed
       omega (arith, good-forty unit v)
 
   module _ (s : Settings) (o : UnitMemory) where
-    pub closed-not-whole : verdictOf basic unit ≡ NotWhole → closedUnit s o unit ≡ erroredUnit s o 2 4 (take (bits / 8) area)
+    pub closed-not-whole : verdictOf basic unit ≡ NotWhole → closedUnit s o unit ≡ erroredUnit s o statuses.NotWhole kinds.NotWhole (take (bits / 8) area)
     unfolding closedUnit
     closed-not-whole v = rw (v, whole)
 
-    pub closed-wrong : verdictOf basic unit ≡ CheckWrong → closedUnit s o unit ≡ erroredUnit s o 1 3 (take (bits / 8) area)
+    pub closed-wrong : verdictOf basic unit ≡ CheckWrong → closedUnit s o unit ≡ erroredUnit s o statuses.CheckWrong kinds.CheckWrong (take (bits / 8) area)
     unfolding closedUnit
     closed-wrong v = rw (v, whole)
 

@@ -19,16 +19,22 @@ use Rattle.filter.specs.declared.Fate.{Fate}
 use Rattle.filter.specs.declared.Fate.the-variants.{HandedOver, Dropped, Lost}
 use Rattle.filter.specs.declared.Memory.{Memory}
 use Rattle.filter.specs.Memory.{settled}
-use Rattle.memory.specs.Lent.{filled}
+use Rattle.memory.specs.declared.Status.{Status}
+use Rattle.memory.specs.declared.Status.the-variants as statuses
+use Rattle.memory.specs.Lent.{statusWord, filled}
 use Rattle.memory.proofs.Slots.{pool-length, descriptors-length, filled-length, next-below}
 use Rattle.board.specs.declared.Settings.{Settings}
 use Rattle.board.specs.declared.Counting.{Counting}
 use Rattle.board.specs.declared.Counts.{Counts}
+use Rattle.board.specs.declared.events.Event.the-variants as events
+use Rattle.board.specs.Events.{eventBit}
+use Rattle.records.specs.declared.RecordKind.{RecordKind}
+use Rattle.records.specs.declared.RecordKind.the-variants as kinds
 use Rattle.records.specs.declared.Happening.{Happening}
 use Rattle.records.specs.Promises.{FirstFive, none}
 use Rattle.records.specs.Promises.{more as five-more}
 use Rattle.units.specs.Indications.{found, octetEnd}
-use Rattle.units.specs.Units.{UnitMemory, Effect, unitMemory, effect, unitStateOf, firstFive, begins, unitOf, isFree, goodCounts, overCounts, droppedCounts, lostCounts, shortTaken, handOver, byFate, byVerdict, ticks, tickOf, goodUnit, erroredUnit, closedUnit, octetEffect, effectOf, unitMemoryAfter, happenings, nextUnitMemory, happens}
+use Rattle.units.specs.Units.{UnitMemory, Effect, unitMemory, effect, unitStateOf, firstFive, begins, unitOf, isFree, oneMore, counted, shortTaken, handOver, byFate, byVerdict, ticks, tickOf, goodUnit, erroredUnit, closedUnit, octetEffect, effectOf, unitMemoryAfter, happenings, nextUnitMemory, happens}
 use Rattle.units.specs.Fit.{Fits}
 use Rattle.units.specs.Promises.{FitKept, OneFound, OneAtMost, FirstFives, Sums, SumKept, SumAfter, UnitMemoryAppend, HappeningsAppend}
 use Rattle.units.proofs.FirstFive.{five-length}
@@ -50,22 +56,22 @@ each-verdict P CheckWrong x y z w = z
 each-verdict P Good x y z w = w
 
 each-closed : (P : Effect → Type 0) (s : Settings) (o : UnitMemory) (u : List Bool)
-    → P (effect o (shortTaken (o .units) (wholeOctets u) .happening ∷ [])) → ((status kind : ℕ) → P (erroredUnit s o status kind (wholeOctets u)))
+    → P (effect o (shortTaken (o .units) (wholeOctets u) .happening ∷ [])) → ((status : Status) (kind : RecordKind) → P (erroredUnit s o status kind (wholeOctets u)))
     → P (goodUnit s o (wholeOctets u)) → P (closedUnit s o u)
 unfolding closedUnit
-each-closed P s o u short errored good = each-verdict P (verdictOf basic u) short (errored 2 4) (errored 1 3) good
+each-closed P s o u short errored good = each-verdict P (verdictOf basic u) short (errored statuses.NotWhole kinds.NotWhole) (errored statuses.CheckWrong kinds.CheckWrong) good
 
 -- a unit state that has stored no unit, and one that has
 abbrev stayed : UnitMemory → Counting → Memory → Counts → Happening → Effect
 stayed o c m n h = effect (unitMemory (unitStateOf c m (o .units .slots .next) n) (o .pool) (o .descriptors)) (h ∷ [])
 
-abbrev storing : Settings → UnitMemory → ℕ → List ℕ → Counting → Memory → Counts → Happening → Effect
+abbrev storing : Settings → UnitMemory → Status → List ℕ → Counting → Memory → Counts → Happening → Effect
 storing s o status os c m n h = effect (handOver (s .k) status os o (unitStateOf c m (o .units .slots .next) n)) (h ∷ [])
 
 module _ (P : Effect → Type 0) (s : Settings) (o : UnitMemory) (os : List ℕ) where
-  each-errored : (status kind : ℕ)
-      → P (storing s o status os (o .units .counting) (o .units .memory) (o .units .counts) (unitOf kind false os (o .units .counts .good) true 1))
-      → P (stayed o (begins (s .orn) (o .units .counting)) (o .units .memory) (o .units .counts) (unitOf kind true os (o .units .counts .good) true 2))
+  each-errored : (status : Status) (kind : RecordKind)
+      → P (storing s o status os (o .units .counting) (o .units .memory) (o .units .counts) (unitOf kind false os (o .units .counts .good) true (eventBit events.HandedOver)))
+      → P (stayed o (begins (s .orn) (o .units .counting)) (o .units .memory) (o .units .counts) (unitOf kind true os (o .units .counts .good) true (eventBit events.Busy)))
       → P (erroredUnit s o status kind os)
   unfolding erroredUnit
   each-errored status kind over lost = each-cond P (isFree o) over lost
@@ -73,15 +79,15 @@ module _ (P : Effect → Type 0) (s : Settings) (o : UnitMemory) (os : List ℕ)
   abbrev off : Counting
   off = record { on = false; left = o .units .counting .left }
 
-  abbrev more : Counts
-  more = goodCounts (o .units .counts)
+  abbrev more : ℕ
+  more = oneMore (o .units .counts .good)
 
-  each-good : ((m : Memory) → P (storing s o 0 os off m (overCounts more) (unitOf 0 false os (more .good) false 1)))
-      → ((m : Memory) → P (stayed o off m (droppedCounts more) (unitOf 1 false os (more .good) false 0)))
-      → ((m : Memory) → P (stayed o (begins (s .orn) off) m (lostCounts more) (unitOf 2 true os (more .good) false 2))) → P (goodUnit s o os)
+  each-good : ((m : Memory) → P (storing s o statuses.Good os off m (counted HandedOver (o .units .counts)) (unitOf kinds.HandedOver false os more false (eventBit events.HandedOver))))
+      → ((m : Memory) → P (stayed o off m (counted Dropped (o .units .counts)) (unitOf kinds.Dropped false os more false 0)))
+      → ((m : Memory) → P (stayed o (begins (s .orn) off) m (counted Lost (o .units .counts)) (unitOf kinds.Lost true os more false (eventBit events.Busy)))) → P (goodUnit s o os)
   unfolding goodUnit
   each-good over dropped lost =
-      let st = settled (s .filter) (s .mask) (o .units .memory) os (isFree o) in
+      let st = settled basic (s .filter) (s .mask) (o .units .memory) os (isFree o) in
       each-fate P (st .fate) (over (st .memory)) (dropped (st .memory)) (lost (st .memory))
 
 -- ---- the state of units and the lent memory stay fit
@@ -93,34 +99,34 @@ module _ (s : Settings) (o : UnitMemory) (f : Fits s (o .units) (o .pool) (o .de
   stays c m n l = record { slots = f .slots; octets = f .octets; words = f .words; next = f .next; counter = l; reload = f .reload }
 
   -- a unit of up to 280 octets
-  stored : (status : ℕ) (os : List ℕ) (c : Counting) (m : Memory) (n : Counts) (h : Happening) → 1 ≤ c .left → length os ≤ 280
+  stored : (status : Status) (os : List ℕ) (c : Counting) (m : Memory) (n : Counts) (h : Happening) → 1 ≤ c .left → length os ≤ 280
       → Fit s (storing s o status os c m n h)
   stored status os c m n h l w =
       let next = o .units .slots .next in
       let wide : 280 * next + 280 ≤ length (o .pool) = omega (arith, f) in
       record {
         slots = f .slots;
-        octets = pool-length (o .pool) (filled os) next (filled-length os w) wide ∙ f .octets;
-        words = descriptors-length (o .descriptors) next status (length os) ∙ f .words;
+        octets = pool-length basic (o .pool) (filled basic os) next (filled-length basic os w) wide ∙ f .octets;
+        words = descriptors-length (o .descriptors) next (statusWord status) (length os) ∙ f .words;
         next = next-below (s .k) next (f .next);
         counter = l;
         reload = f .reload;
       }
 
-  fit-errored : (status kind : ℕ) (os : List ℕ) → length os ≤ 280 → Fit s (erroredUnit s o status kind os)
+  fit-errored : (status : Status) (kind : RecordKind) (os : List ℕ) → length os ≤ 280 → Fit s (erroredUnit s o status kind os)
   fit-errored status kind os w =
       each-errored (Fit s) s o os status kind
-      (stored status os (o .units .counting) (o .units .memory) (o .units .counts) (unitOf kind false os (o .units .counts .good) true 1) (f .counter) w)
+      (stored status os (o .units .counting) (o .units .memory) (o .units .counts) (unitOf kind false os (o .units .counts .good) true (eventBit events.HandedOver)) (f .counter) w)
       (stays (begins (s .orn) (o .units .counting)) (o .units .memory) (o .units .counts) (f .counter))
 
   fit-good : (os : List ℕ) → length os ≤ 280 → Fit s (goodUnit s o os)
   fit-good os w =
       let off : Counting = record { on = false; left = o .units .counting .left } in
-      let more = goodCounts (o .units .counts) in
+      let more = oneMore (o .units .counts .good) in
       each-good (Fit s) s o os
-      (λ m. stored 0 os off m (overCounts more) (unitOf 0 false os (more .good) false 1) (f .counter) w)
-      (λ m. stays off m (droppedCounts more) (f .counter))
-      (λ m. stays (begins (s .orn) off) m (lostCounts more) (f .counter))
+      (λ m. stored statuses.Good os off m (counted HandedOver (o .units .counts)) (unitOf kinds.HandedOver false os more false (eventBit events.HandedOver)) (f .counter) w)
+      (λ m. stays off m (counted Dropped (o .units .counts)) (f .counter))
+      (λ m. stays (begins (s .orn) off) m (counted Lost (o .units .counts)) (f .counter))
 
   fit-closed : (u : List Bool) → length (wholeOctets u) ≤ 280 → Fit s (closedUnit s o u)
   fit-closed u w =

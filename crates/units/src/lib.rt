@@ -1,13 +1,17 @@
 // What happens to a closed unit, in order; long units and aborts; octet counting. The front end: it never looks at the monitor.
 use board::Counting;
 use board::Counts;
+use board::Link;
 use board::Settings;
 use board::Slots;
 use board::UnitState;
+use board::limits;
 use filter::Fate;
 use filter::Memory;
 use framing::Verdict;
+use memory::Status;
 use records::Happening;
+use records::RecordKind;
 ghost use mathlib.Core.Path.{_≡_};
 ghost use mathlib.Core.Bool.{true, false, cond};
 ghost use mathlib.Core.List.{List, [], _∷_};
@@ -15,8 +19,8 @@ ghost use Prim.Native.Nat.{ℕ, _+_, _-_, _≤_, _<_};
 ghost use lib.Dec.{eqb};
 ghost use lib.ListN.{length, take, getD};
 ghost use Rattle.bits.specs.Octets.{lineBits, packed};
-ghost use Rattle.memory.specs.Lent.{statusOf};
-ghost use Rattle.units.specs.Units.{unitMemory, effect, unitStateOf, firstFive, goodCounts, overCounts, droppedCounts, lostCounts, goodUnit, erroredUnit, shortTaken, closedUnit, broken, tickOf};
+ghost use Rattle.memory.specs.Lent.{statusWord, statusOf};
+ghost use Rattle.units.specs.Units.{unitMemory, effect, unitStateOf, firstFive, counted, goodUnit, erroredUnit, shortTaken, closedUnit, broken, tickOf};
 ghost use Rattle.units.specs.Fit.{Fits};
 
 // The unit state after a finding, and what happened.
@@ -51,45 +55,36 @@ fn first_five(area: &[u8; 279], count: u16) -> [u8; 5]
 
 // Whether a slot is empty.
 fn is_free(descriptors: &[u16], slot: u16) -> bool
-    ensures { λ r. ⌜ r ≡ eqb (statusOf (now (descriptors .entry)) slot) 32768 ⌝ }
+    ensures { λ r. ⌜ r ≡ eqb (statusOf (now (descriptors .entry)) slot) (statusWord Status.Empty) ⌝ }
 {
-    memory::word_at(descriptors, 2 * (slot as usize)) == 32768
+    memory::word_at(descriptors, 2 * (slot as usize)) == Link::STATUS_EMPTY
 }
 
-// One more good unit.
-fn count_good(c: Counts) -> Counts
-    ensures { λ r. ⌜ r ≡ goodCounts c ⌝ }
+// One more good unit, and one more of its fate; each count goes round to 0 after 65,535.
+fn counted(c: Counts, fate: Fate) -> Counts
+    ensures { λ r. ⌜ r ≡ counted fate c ⌝ }
 {
-    let mut n = c;
-    n.good = std::num::wrapping_add_u16(c.good, 1);
-    n
-}
-
-// One more unit handed over.
-fn count_over(c: Counts) -> Counts
-    ensures { λ r. ⌜ r ≡ overCounts c ⌝ }
-{
-    let mut n = c;
-    n.over = std::num::wrapping_add_u16(c.over, 1);
-    n
-}
-
-// One more unit dropped.
-fn count_dropped(c: Counts) -> Counts
-    ensures { λ r. ⌜ r ≡ droppedCounts c ⌝ }
-{
-    let mut n = c;
-    n.dropped = std::num::wrapping_add_u16(c.dropped, 1);
-    n
-}
-
-// One more unit lost.
-fn count_lost(c: Counts) -> Counts
-    ensures { λ r. ⌜ r ≡ lostCounts c ⌝ }
-{
-    let mut n = c;
-    n.lost = std::num::wrapping_add_u16(c.lost, 1);
-    n
+    let good = std::num::wrapping_add_u16(c.good, 1);
+    match fate {
+        Fate::HandedOver => Counts {
+            good: good,
+            over: std::num::wrapping_add_u16(c.over, 1),
+            dropped: c.dropped,
+            lost: c.lost,
+        },
+        Fate::Dropped => Counts {
+            good: good,
+            over: c.over,
+            dropped: std::num::wrapping_add_u16(c.dropped, 1),
+            lost: c.lost,
+        },
+        Fate::Lost => Counts {
+            good: good,
+            over: c.over,
+            dropped: c.dropped,
+            lost: std::num::wrapping_add_u16(c.lost, 1),
+        },
+    }
 }
 
 // A unit state of these parts.
@@ -106,7 +101,7 @@ fn unit_state(on: bool, left: u16, memory: Memory, next: u16, counts: Counts) ->
 
 // A closed unit that is an event, errored or not.
 fn event_of(
-    kind: u8,
+    kind: RecordKind,
     lost: bool,
     count: u16,
     first: [u8; 5],
@@ -129,7 +124,7 @@ fn event_of(
 }
 
 // What is no event.
-fn bare_of(kind: u8, count: u16, first: [u8; 5], good: u16, bits: u16) -> Happening
+fn bare_of(kind: RecordKind, count: u16, first: [u8; 5], good: u16, bits: u16) -> Happening
     ensures { λ r. ⌜ r ≡ record { kind = kind; lost = false; length = count; first = first; good = good; event = false; errored = false; bits = bits } ⌝ }
 {
     Happening {
@@ -165,44 +160,61 @@ fn good_unit(
     let settled = filter::settle(s.filter, mask, memory, count, first, free);
     let fate = settled.fate;
     let kept = settled.memory;
-    let counts = count_good(units.counts);
+    let counts = counted(units.counts, fate);
     let left = units.counting.left;
     let good = counts.good;
     match fate {
         Fate::HandedOver => {
             let k = s.k;
-            let after = memory::store_next(&mut *pool, &mut *descriptors, next, k, area, count, 0);
-            let over = count_over(counts);
+            let after = memory::store_next(
+                &mut *pool,
+                &mut *descriptors,
+                next,
+                k,
+                area,
+                count,
+                Link::STATUS_GOOD,
+            );
             Taken {
-                units: unit_state(false, left, kept, after, over),
-                happening: event_of(0, false, count, first, good, false, 1),
+                units: unit_state(false, left, kept, after, counts),
+                happening: event_of(
+                    RecordKind::HandedOver,
+                    false,
+                    count,
+                    first,
+                    good,
+                    false,
+                    Link::EVENT_OVER,
+                ),
             }
         }
-        Fate::Dropped => {
-            let dropped = count_dropped(counts);
-            Taken {
-                units: unit_state(false, left, kept, next, dropped),
-                happening: event_of(1, false, count, first, good, false, 0),
-            }
-        }
-        Fate::Lost => {
-            let lost = count_lost(counts);
-            Taken {
-                units: unit_state(s.orn, left, kept, next, lost),
-                happening: event_of(2, true, count, first, good, false, 2),
-            }
-        }
+        Fate::Dropped => Taken {
+            units: unit_state(false, left, kept, next, counts),
+            happening: event_of(RecordKind::Dropped, false, count, first, good, false, 0),
+        },
+        Fate::Lost => Taken {
+            units: unit_state(s.orn, left, kept, next, counts),
+            happening: event_of(
+                RecordKind::Lost,
+                true,
+                count,
+                first,
+                good,
+                false,
+                Link::EVENT_BUSY,
+            ),
+        },
     }
 }
 
 // A unit with an error, of this status and kind, of `count` whole octets at the front of the area.
-pub fn errored_unit(
+fn errored_unit(
     s: Settings,
     units: UnitState,
     area: &[u8; 279],
     count: u16,
-    status: u16,
-    kind: u8,
+    status: Status,
+    kind: RecordKind,
     pool: &mut [u8],
     descriptors: &mut [u16],
 ) -> Taken
@@ -218,15 +230,16 @@ pub fn errored_unit(
     let good = counts.good;
     if is_free(&*descriptors, next) {
         let k = s.k;
-        let after = memory::store_next(&mut *pool, &mut *descriptors, next, k, area, count, status);
+        let word = limits::status_word(status);
+        let after = memory::store_next(&mut *pool, &mut *descriptors, next, k, area, count, word);
         return Taken {
             units: unit_state(counting.on, counting.left, memory, after, counts),
-            happening: event_of(kind, false, count, first, good, true, 1),
+            happening: event_of(kind, false, count, first, good, true, Link::EVENT_OVER),
         };
     }
     Taken {
         units: unit_state(s.orn | counting.on, counting.left, memory, next, counts),
-        happening: event_of(kind, true, count, first, good, true, 2),
+        happening: event_of(kind, true, count, first, good, true, Link::EVENT_BUSY),
     }
 }
 
@@ -239,7 +252,7 @@ fn short_unit(units: UnitState, area: &[u8; 279], count: u16) -> Taken
     let good = units.counts.good;
     Taken {
         units: units,
-        happening: bare_of(5, count, first, good, 0),
+        happening: bare_of(RecordKind::Short, count, first, good, 0),
     }
 }
 
@@ -265,8 +278,8 @@ pub fn closed_unit(
             units,
             area,
             count,
-            2,
-            4,
+            Status::NotWhole,
+            RecordKind::NotWhole,
             &mut *pool,
             &mut *descriptors,
         ),
@@ -275,8 +288,8 @@ pub fn closed_unit(
             units,
             area,
             count,
-            1,
-            3,
+            Status::CheckWrong,
+            RecordKind::CheckWrong,
             &mut *pool,
             &mut *descriptors,
         ),
@@ -285,7 +298,7 @@ pub fn closed_unit(
 }
 
 // A long unit or an abort, of this kind and with this event bit.
-pub fn break_off(s: Settings, units: UnitState, kind: u8, bits: u16) -> Taken
+pub fn break_off(s: Settings, units: UnitState, kind: RecordKind, bits: u16) -> Taken
     ensures { λ r. ⌜ ((pool descriptors : List ℕ) → effect (unitMemory (r .units) pool descriptors) (r .happening ∷ []) ≡ broken s (unitMemory units pool descriptors) kind bits) ⌝ }
 {
     let counting = units.counting;
@@ -315,13 +328,13 @@ pub fn tick(good: u16) -> Happening
     ensures { λ r. ⌜ r ≡ tickOf good ⌝ }
 {
     Happening {
-        kind: 8,
+        kind: RecordKind::Tick,
         lost: false,
         length: 0,
         first: [0; 5],
         good: good,
         event: true,
         errored: true,
-        bits: 16,
+        bits: Link::EVENT_OCTET,
     }
 }

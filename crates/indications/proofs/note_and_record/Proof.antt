@@ -1,6 +1,6 @@
 -- `indications::note_and_record` meets its contract: what the monitor notes is what is recorded.
+use Rattle.board.specs.Limits.{monitorLimits}
 use Rattle.indications.proofs.Recording.{note-and-record-way}
-use Rattle.indications.specs.Writing.{monitorLimits}
 use Rattle.records.proofs.Range.{range-takes}
 use borrow.Author.Needs.{needs}
 use Rattle.indications.proofs.note_and_record.Statement.{statement}

@@ -3,6 +3,7 @@ use Prim.Native.Nat.{_+_, _*_, _≤_}
 use mathlib.Core.Path.{_≡_, sym, subst, _∙_}
 use native.Mathlib.Omega.{arith}
 use lib.ListN.{length}
+use Rattle.board.specs.Limits.{recordOctets, recordRoom}
 use Rattle.indications.specs.declared.Progress.{Progress}
 use Rattle.indications.specs.Writing.{holding}
 use Rattle.reception.specs.Writing.{StateInRange, LineTaken}
@@ -46,7 +47,7 @@ take-line-requires c κs =
         limits (a .link) (a .octets .now) (a .pool .now) (a .descriptors .now) (a .records .now) ok,
         subst (λ (x : Progress). StateInRange (a .link .settings) (holding x (a .pool .now) (a .descriptors .now) (a .records .now))) (sym p) (ready (a .link) (a .octets .now) (a .pool .now) (a .descriptors .now) (a .records .now) ok),
       ),
-      (held (a .link) (a .octets .now) (a .pool .now) (a .descriptors .now) (a .records .now) ok typed, subst (λ (x : Progress). 16 * x .count + 48 * length (a .octets .now) ≤ length (a .records .now)) (sym p) (omega (arith, ok .room)), ok .few),
+      (held (a .link) (a .octets .now) (a .pool .now) (a .descriptors .now) (a .records .now) ok typed, subst (λ (x : Progress). recordOctets * x .count + recordRoom * length (a .octets .now) ≤ length (a .records .now)) (sym p) (omega (arith, ok .room)), ok .few),
     )
 
 link-received-requires : tie.Need-link-received-requires

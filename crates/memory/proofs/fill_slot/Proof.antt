@@ -3,6 +3,7 @@ use Prim.Native.Nat.{_-_}
 use mathlib.Core.Path.{sym, _∙_}
 use native.Mathlib.Omega.{arith}
 use lib.ListN.{length}
+use Rattle.bits.specs.Format.{basic}
 use Rattle.memory.specs.Lent.{filled}
 use Rattle.memory.proofs.Loops.{Written, write-start, write-more, write-end}
 use Rattle.memory.proofs.Slots.{filled-length}
@@ -11,7 +12,7 @@ use Rattle.memory.proofs.fill_slot.Statement.{statement}
 use Rattle.memory.proofs.fill_slot.Tie as tie
 
 abbrev Inv-loop : tie.InvT-loop
-Inv-loop slot₀ unit i₀ slot i = Written (filled unit) slot₀ slot i
+Inv-loop slot₀ unit i₀ slot i = Written (filled basic unit) slot₀ slot i
 
 abbrev μ-loop : tie.MeasureT-loop
 μ-loop slot₀ unit i₀ slot i = length slot₀ - i
@@ -19,7 +20,7 @@ abbrev μ-loop : tie.MeasureT-loop
 loop-holds : tie.Need-loop-holds Inv-loop μ-loop
 loop-holds c =
     let s = c .before .before in
-    write-start _ _ (filled-length (s .args .unit .now) (s .pre .1) ∙ sym (s .pre .0))
+    write-start _ _ (filled-length basic (s .args .unit .now) (s .pre .1) ∙ sym (s .pre .0))
 
 octet-at-requires : tie.Need-octet-at-requires Inv-loop μ-loop
 octet-at-requires c κs = tt

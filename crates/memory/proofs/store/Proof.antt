@@ -1,6 +1,7 @@
 -- `memory::store` meets its contract: the slot is filled in the pool's middle, then described.
 use mathlib.Core.Path.{ap, _∙_}
 use borrow.Author.Needs.{needs}
+use Rattle.bits.specs.Format.{basic}
 use Rattle.memory.specs.Lent.{filled}
 use Rattle.memory.proofs.Places.{put-slot}
 use Rattle.memory.proofs.store.Statement.{statement}
@@ -42,7 +43,7 @@ returns c =
     let o = f .before .before in
     let b = o .before in
     let s = b .before .before .before in
-    let e = f .fill-slot .ensures ∙ ap filled (o .first-octets .ensures .0) in
+    let e = f .fill-slot .ensures ∙ ap (filled basic) (o .first-octets .ensures .0) in
     (put-slot (s .args .pool .now) (s .args .slot) (b .start-of .result) (b .start-of .ensures) e, c .before .before .describe .ensures)
 
 pub store-spec : {M : Type 1} → statement M

@@ -12,9 +12,12 @@ first-five-requires c κs = search needs
 is-free-requires : tie.Need-is-free-requires
 is-free-requires c κs = search needs
 
+status-word-requires : tie.Need-status-word-requires
+status-word-requires c κs = search needs
+
 store-next-requires : tie.Need-store-next-requires
 store-next-requires c κs =
-    let s = c .before .before .before .before .before .before .before .before .before .before .before in
+    let s = c .before .before .before .before .before .before .before .before .before .before .before .before in
     (omega (arith, s .pre), omega (arith, s .pre), omega (arith, s .pre))
 
 unit-state-requires : tie.Need-unit-state-requires
@@ -32,12 +35,13 @@ same-length-2 c = search needs
 returns : tie.Need-returns
 returns c =
     let n = c .before .before .before .before .before .before in
-    let i = n .before .before .before in
+    let w = n .before .before .before in
+    let i = w .before in
     let f = i .before .before .before .before .before .before in
     let s = f .before .before .before in
     let a = s .args in
     errored-over (a .s) (a .units) (now (a .pool)) (now (a .descriptors)) (now (a .area)) (a .count) (s .pre .1 .0) (s .pre .1 .1) (f .first-five .ensures)
-    (i .before .is-free .ensures) (a .status) (a .kind) (i .if1 .taken) (n .store-next .ensures .0) (n .store-next .ensures .1) (n .store-next .ensures .2)
+    (i .before .is-free .ensures) (a .status) (a .kind) (i .if1 .taken) (w .status-word .ensures) (n .store-next .ensures .0) (n .store-next .ensures .1) (n .store-next .ensures .2)
     (c .before .unit-state .ensures) (c .event-of .ensures)
 
 unit-state-requires-2 : tie.Need-unit-state-requires-2
@@ -64,6 +68,7 @@ errored-unit-spec =
     (tie.spec
     first-five-requires
     is-free-requires
+    status-word-requires
     store-next-requires
     unit-state-requires
     event-of-requires

@@ -15,8 +15,8 @@ first-five-requires c κs = search needs
 settle-requires : tie.Need-settle-requires
 settle-requires c κs = search needs
 
-count-good-requires : tie.Need-count-good-requires
-count-good-requires c κs = search needs
+counted-requires : tie.Need-counted-requires
+counted-requires c κs = search needs
 
 enum-told : tie.Need-enum-told
 enum-told c = search needs
@@ -25,9 +25,6 @@ store-next-requires : tie.Need-store-next-requires
 store-next-requires c κs =
     let s = c .before .before .before .before .before .before .before .before .before .before .before .before .before .before in
     (omega (arith, s .pre), omega (arith, s .pre), omega (arith, s .pre))
-
-count-over-requires : tie.Need-count-over-requires
-count-over-requires c κs = search needs
 
 unit-state-requires : tie.Need-unit-state-requires
 unit-state-requires c κs = search needs
@@ -38,9 +35,6 @@ event-of-requires c κs = search needs
 enum-told-2 : tie.Need-enum-told-2
 enum-told-2 c = search needs
 
-count-dropped-requires : tie.Need-count-dropped-requires
-count-dropped-requires c κs = search needs
-
 unit-state-requires-2 : tie.Need-unit-state-requires-2
 unit-state-requires-2 c κs = search needs
 
@@ -49,9 +43,6 @@ event-of-requires-2 c κs = search needs
 
 enum-told-3 : tie.Need-enum-told-3
 enum-told-3 c = search needs
-
-count-lost-requires : tie.Need-count-lost-requires
-count-lost-requires c κs = search needs
 
 unit-state-requires-3 : tie.Need-unit-state-requires-3
 unit-state-requires-3 c κs = search needs
@@ -67,8 +58,7 @@ same-length-2 c = search needs
 
 returns : tie.Need-returns
 returns c =
-    let o = c .before .before in
-    let n = o .before .before .before .before .before in
+    let n = c .before .before .before .before .before .before in
     let m = n .before .before .before in
     let g = m .before .before in
     let q = g .before .before in
@@ -76,23 +66,22 @@ returns c =
     let s = f .before .before .before .before .before in
     let a = s .args in
     good-over (a .s) (a .units) (now (a .pool)) (now (a .descriptors)) (now (a .area)) (a .count) (s .pre .1 .1) (s .pre .1 .2) (f .first-five .ensures)
-    (f .before .is-free .ensures) (s .pre .1 .0) (q .settle .ensures) (g .count-good .ensures) (m .enum-told .given .1) (n .store-next .ensures .0)
-    (n .store-next .ensures .1) (n .store-next .ensures .2) (o .count-over .ensures) (c .before .unit-state .ensures) (c .event-of .ensures)
+    (f .before .is-free .ensures) (s .pre .1 .0) (q .settle .ensures) (g .counted .ensures) (m .enum-told .given .1) (n .store-next .ensures .0)
+    (n .store-next .ensures .1) (n .store-next .ensures .2) (c .before .unit-state .ensures) (c .event-of .ensures)
 
 same-length-3 : tie.Need-same-length-3
 same-length-3 c = search needs
 
 returns-2 : tie.Need-returns-2
 returns-2 c =
-    let o = c .before .before in
-    let m = o .before in
+    let m = c .before .before in
     let g = m .before .before in
     let q = g .before .before in
     let f = q .before .before .before in
     let s = f .before .before .before .before .before in
     let a = s .args in
     good-dropped (a .s) (a .units) (now (a .pool)) (now (a .descriptors)) (now (a .area)) (a .count) (s .pre .1 .1) (s .pre .1 .2) (f .first-five .ensures)
-    (f .before .is-free .ensures) (s .pre .1 .0) (q .settle .ensures) (g .count-good .ensures) (m .enum-told2 .given .1) (o .count-dropped .ensures)
+    (f .before .is-free .ensures) (s .pre .1 .0) (q .settle .ensures) (g .counted .ensures) (m .enum-told2 .given .1)
     (c .before .unit-state2 .ensures) (c .event-of2 .ensures)
 
 same-length-4 : tie.Need-same-length-4
@@ -100,15 +89,14 @@ same-length-4 c = search needs
 
 returns-3 : tie.Need-returns-3
 returns-3 c =
-    let o = c .before .before in
-    let m = o .before in
+    let m = c .before .before in
     let g = m .before .before in
     let q = g .before .before in
     let f = q .before .before .before in
     let s = f .before .before .before .before .before in
     let a = s .args in
     good-lost (a .s) (a .units) (now (a .pool)) (now (a .descriptors)) (now (a .area)) (a .count) (s .pre .1 .1) (s .pre .1 .2) (f .first-five .ensures)
-    (f .before .is-free .ensures) (s .pre .1 .0) (q .settle .ensures) (g .count-good .ensures) (m .enum-told3 .given .1) (o .count-lost .ensures)
+    (f .before .is-free .ensures) (s .pre .1 .0) (q .settle .ensures) (g .counted .ensures) (m .enum-told3 .given .1)
     (c .before .unit-state3 .ensures) (c .event-of3 .ensures)
 
 pub good-unit-spec : {M : Type 1} → statement M
@@ -118,18 +106,15 @@ good-unit-spec =
     is-free-requires
     first-five-requires
     settle-requires
-    count-good-requires
+    counted-requires
     enum-told
     store-next-requires
-    count-over-requires
     unit-state-requires
     event-of-requires
     enum-told-2
-    count-dropped-requires
     unit-state-requires-2
     event-of-requires-2
     enum-told-3
-    count-lost-requires
     unit-state-requires-3
     event-of-requires-3
     same-length
