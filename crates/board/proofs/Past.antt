@@ -4,18 +4,20 @@ use mathlib.Core.Path.{_≡_, refl, sym, ap, ap₂, _∙_}
 use mathlib.Core.Bool.{Bool, true, false, not, _&&_, false≢true}
 use mathlib.Core.List.{List, [], _∷_, _++_, append-nil}
 use native.Mathlib.Nat.{pow-suc, sub-zero, div-lt-iff-lt-mul}
+use native.Mathlib.Decide.{decLt}
 use native.Mathlib.Omega.{arith}
 use lib.Dec.{eqb}
-use lib.ListN.{length, getD, take, drop, drop-of-length-le, take-append-drop}
-use lib.Seq.{append-snoc, drop-nil, drop-at}
-use lib.Pow.{pow-add, pow-pos}
+use lib.ListN.{length, getD, take, drop, length-drop, drop-of-length-le, take-append-drop}
+use lib.Seq.{append-snoc, take-all, drop-nil, drop-at}
+use lib.Pow.{pow-add, pow-pos, pow-lt}
 use borrow.Author.Tests.{eq-eqb, ne-eqb, eqb-true, eqb-false}
-use Rattle.bits.specs.Octets.{odd, bitsOf, lineBits, packed, Octets}
-use Rattle.bits.proofs.Digits.{length-bitsOf, bits-more}
+use Rattle.bits.specs.Octets.{odd, bitsOf, lineBits, octetOf, packed, Octets}
+use Rattle.bits.proofs.Digits.{length-bitsOf, bits-more, octetOf-lt}
 use Rattle.bits.proofs.Lines.{line-drop}
 use Rattle.bits.proofs.Packing.{repack}
 use Rattle.bits.proofs.Gathering.{zero-in}
 use Rattle.board.specs.Malformed.{noOnes, zeroPast}
+use Rattle.board.specs.Promises.{PastHolds, PackedPast}
 
 both-assoc : (a b c : Bool) → (a && b) && c ≡ a && (b && c)
 both-assoc true b c = refl
@@ -80,21 +82,21 @@ part-above x bit l h =
         let p : 2 ^ (8 - bit + bit) ≡ 2 ^ 8 = ap (λ (k : ℕ). 2 ^ k) back in
         div-lt-iff-lt-mul (pow-pos bit) .1 (omega (arith, pow-add 2 (8 - bit) bit))
 
--- ---- a turn of the loop
+-- ---- a step of the loop
 module _ (xs : List ℕ) (i n : ℕ) (h : i < length xs) where
-  turn : zeroPast n (drop i xs) ≡ noOnes (drop n (bitsOf 8 (getD xs i 0))) && zeroPast (n - 8) (drop (i + 1) xs)
+  step : zeroPast n (drop i xs) ≡ noOnes (drop n (bitsOf 8 (getD xs i 0))) && zeroPast (n - 8) (drop (i + 1) xs)
   unfolding zeroPast
-  turn =
+  step =
       ap (λ (l : List Bool). noOnes (drop n l)) (line-drop xs i h)
       ∙ ap noOnes (drop-append n (bitsOf 8 (getD xs i 0)) (lineBits (drop (i + 1) xs)))
       ∙ noOnes-append (drop n (bitsOf 8 (getD xs i 0))) (drop (n - length (bitsOf 8 (getD xs i 0))) (lineBits (drop (i + 1) xs)))
       ∙ ap (λ (k : ℕ). noOnes (drop n (bitsOf 8 (getD xs i 0))) && noOnes (drop (n - k) (lineBits (drop (i + 1) xs)))) (length-bitsOf 8 (getD xs i 0))
 
   pub past-stops : noOnes (drop n (bitsOf 8 (getD xs i 0))) ≡ false → zeroPast n (drop i xs) ≡ false
-  past-stops e = turn ∙ ap (λ (b : Bool). b && zeroPast (n - 8) (drop (i + 1) xs)) e
+  past-stops e = step ∙ ap (λ (b : Bool). b && zeroPast (n - 8) (drop (i + 1) xs)) e
 
   pub past-goes : noOnes (drop n (bitsOf 8 (getD xs i 0))) ≡ true → zeroPast n (drop i xs) ≡ zeroPast (n - 8) (drop (i + 1) xs)
-  past-goes e = turn ∙ ap (λ (b : Bool). b && zeroPast (n - 8) (drop (i + 1) xs)) e
+  past-goes e = step ∙ ap (λ (b : Bool). b && zeroPast (n - 8) (drop (i + 1) xs)) e
 
 pub past-ends : (xs : List ℕ) (i n : ℕ) → length xs ≤ i → zeroPast n (drop i xs) ≡ true
 unfolding zeroPast noOnes lineBits
@@ -107,9 +109,29 @@ packed-zeros k [] g e = ap (packed k) (append-nil g)
 packed-zeros k (true ∷ z) g e = absurd (false≢true e)
 packed-zeros k (false ∷ z) g e = ap (packed k) (sym (append-snoc g false z)) ∙ packed-zeros k z (g ++ (false ∷ [])) e ∙ zero-in k g
 
-pub past-holds : (n : ℕ) (area : List ℕ) → Octets area → zeroPast n area ≡ true → area ≡ packed (length area) (take n (lineBits area))
+pub past-holds : PastHolds
 unfolding zeroPast
 past-holds n area o e =
     sym (repack area [] o)
     ∙ ap (packed (length area)) (append-nil (lineBits area) ∙ sym (take-append-drop n (lineBits area)))
     ∙ packed-zeros (length area) (drop n (lineBits area)) (take n (lineBits area)) e
+
+-- ---- the area that holds bits is zero past them
+no-ones : (g : List Bool) → noOnes (drop (length g) (bitsOf 8 (octetOf (take 8 g)))) ≡ true
+no-ones g =
+    elim (decLt (length g) 8) [
+      | yes p ↦
+          let e : octetOf (take 8 g) ≡ octetOf g = ap octetOf (take-all 8 g (omega arith)) in
+          let w : 2 ^ length g < 2 ^ 8 = pow-lt p in
+          let low : octetOf (take 8 g) < 1 * 2 ^ length g = omega (arith, octetOf-lt g) in
+          let none : octetOf (take 8 g) / 2 ^ length g < 1 = div-lt-iff-lt-mul (pow-pos (length g)) .1 low in
+          part-above (octetOf (take 8 g)) (length g) (omega arith) p ∙ eq-eqb (octetOf (take 8 g) / 2 ^ length g) 0 (omega arith)
+      | no p ↦ none-above (octetOf (take 8 g)) (length g) (omega arith)
+    ]
+
+pub packed-past : PackedPast
+unfolding packed
+packed-past zero g = past-ends [] 0 (length g) (omega arith)
+packed-past (suc n) g =
+    past-goes (packed (suc n) g) 0 (length g) (omega arith) (no-ones g)
+    ∙ ap (λ (k : ℕ). zeroPast k (packed n (drop 8 g))) (sym (length-drop 8 g)) ∙ packed-past n (drop 8 g)

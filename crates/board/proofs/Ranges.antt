@@ -1,16 +1,19 @@
--- What a link that is not malformed obeys.
+-- Settings in range and open links that are not malformed, as tests and as facts.
 use Prim.Native.Nat.{ℕ, _+_, _*_, _≤_, _<_}
 use mathlib.Core.Path.{_≡_, refl, sym, ap, _∙_}
 use mathlib.Core.Bool.{Bool, true, false, not, _&&_, _||_, false≢true, cond}
 use mathlib.Core.List.{List, [], _∷_}
 use native.Mathlib.Omega.{arith}
 use lib.Dec.{leb, ltb}
-use borrow.Author.Tests.{leb-true, leb-false, ltb-true, ltb-false, not-true, not-false}
+use borrow.Author.Tests.{leb-true, leb-false, le-leb, lt-leb, ltb-false, le-ltb, not-false}
 use Rattle.bits.specs.Format.{basic}
 use Rattle.monitor.specs.declared.Mode.{Mode}
 use Rattle.monitor.specs.declared.Mode.the-variants.{Off, Failure, Alignment, Idle}
 use Rattle.board.specs.declared.Settings.{Settings}
 use Rattle.board.specs.declared.Link.{Link}
+use Rattle.board.specs.Limits.{mostCount}
+use Rattle.board.specs.InnerRanges.{SettingsInRange, countInRange, MonitorInRange, WellFormed}
+use Rattle.board.specs.Promises.{RangesExactly, WellFormedExactly}
 use Rattle.board.specs.Malformed.{zeroPast, within, inRange, lineOut, counterOut, countOut, monitorOut, transmitterOut, openMalformed, isNew, malformed}
 
 pub when-open : (l : Link) → l .opened ≡ true → malformed l ≡ openMalformed l
@@ -30,20 +33,20 @@ pub neither : (a b : Bool) → a || b ≡ false → (a ≡ false) × (b ≡ fals
 neither true b e = absurd (false≢true (sym e))
 neither false b e = (refl, e)
 
--- ---- the settings
-pub record Ranges (s : Settings) : Type 0 where
-  pub k : (1 ≤ s .k) × (s .k ≤ 16)
-  pub m : (7 ≤ s .m) × (s .m ≤ 278)
-  pub n : (1 ≤ s .n) × (s .n ≤ 1024)
-  pub t : (1 ≤ s .t) × (s .t ≤ 1024)
-  pub d : (1 ≤ s .d) × (s .d ≤ 1024)
-  pub a : (1 ≤ s .a) × (s .a ≤ 1024)
+pub both-true : (a b : Bool) → a ≡ true → b ≡ true → a && b ≡ true
+both-true a b p q = rw (p, q)
 
--- a number within a range
+pub both-false : (a b : Bool) → a ≡ false → b ≡ false → a || b ≡ false
+both-false a b p q = rw (p, q)
+
+-- ---- the settings
 within-range : (least most n : ℕ) → within least most n ≡ true → (least ≤ n) × (n ≤ most)
 within-range least most n e = let p = both _ _ e in (leb-true least n (p .0), leb-true n most (p .1))
 
-pub ranges : (s : Settings) → inRange basic s ≡ true → Ranges s
+range-within : (least most n : ℕ) → (least ≤ n) × (n ≤ most) → within least most n ≡ true
+range-within least most n h = both-true _ _ (le-leb least n (h .0)) (le-leb n most (h .1))
+
+pub ranges : (s : Settings) → inRange basic s ≡ true → SettingsInRange s
 unfolding inRange
 ranges s e =
     let a = both _ _ e in
@@ -60,28 +63,47 @@ ranges s e =
       a = within-range _ _ (s .a) (a .1);
     }
 
--- ---- an open link that is not malformed
-pub record InOrder (l : Link) : Type 0 where
-  pub area : zeroPast (l .line .state .bits) (l .line .area) ≡ true
-  pub settings : Ranges (l .settings)
-  pub run : l .line .state .run ≤ 7
-  pub bits : l .line .state .bits ≤ 8 * l .settings .m + 7
-  pub idle : l .line .state .hunting ≡ true → l .line .state .bits ≡ 0
-  pub counter : (1 ≤ l .units .counting .left) × (l .units .counting .left ≤ l .settings .n)
-  pub number : l .supervision .monitor .number < l .settings .d
-  pub count : countOut (l .supervision .monitor .mode) (l .settings) (l .supervision .monitor .count) ≡ false
-  pub next : l .units .slots .next < l .settings .k
-  pub waiting : l .transmitter .count ≤ 7
-  pub unflagged : l .transmitter .flagged ≡ false → l .transmitter .count ≡ 0
-  pub wait : zeroPast (l .transmitter .count) (l .transmitter .wait ∷ []) ≡ true
+pub in-range : (s : Settings) → SettingsInRange s → inRange basic s ≡ true
+unfolding inRange
+in-range s r =
+    both-true _ _
+    (both-true _ _
+    (both-true _ _
+    (both-true _ _ (both-true _ _ (range-within _ _ (s .k) (r .k)) (range-within _ _ (s .m) (r .m))) (range-within _ _ (s .n) (r .n)))
+    (range-within _ _ (s .t) (r .t))) (range-within _ _ (s .d) (r .d))) (range-within _ _ (s .a) (r .a))
 
+pub ranges-exactly : RangesExactly
+ranges-exactly s = (ranges s, in-range s)
+
+-- ---- the monitor
+count-in : (mode : Mode) (s : Settings) (count : ℕ) → countOut mode s count ≡ false → countInRange s mode count
+count-in Failure s count e = leb-false (s .t) count e
+count-in Alignment s count e = leb-false (s .a) count e
+count-in Idle s count e = ltb-false mostCount count e
+count-in Off s count e = ltb-false mostCount count e
+
+count-out : (mode : Mode) (s : Settings) (count : ℕ) → countInRange s mode count → countOut mode s count ≡ false
+count-out Failure s count h = lt-leb (s .t) count h
+count-out Alignment s count h = lt-leb (s .a) count h
+count-out Idle s count h = le-ltb mostCount count h
+count-out Off s count h = le-ltb mostCount count h
+
+-- ---- an open link
 none-while : (b : Bool) (n : ℕ) → b && ltb 0 n ≡ false → b ≡ true → n ≡ 0
 none-while true n e q = let z = ltb-false 0 n e in omega arith
 none-while false n e q = absurd (false≢true q)
 
-pub in-order : (l : Link) → l .opened ≡ true → malformed l ≡ false → InOrder l
+none-then : (b : Bool) (n : ℕ) → (b ≡ true → n ≡ 0) → b && ltb 0 n ≡ false
+none-then true n h = le-ltb 0 n (omega (arith, h refl))
+none-then false n h = refl
+
+not-on : (b : Bool) (n : ℕ) → (b ≡ false → n ≡ 0) → not b && ltb 0 n ≡ false
+not-on true n h = refl
+not-on false n h = le-ltb 0 n (omega (arith, h refl))
+
+pub well-formed : (l : Link) → l .opened ≡ true → malformed l ≡ false → WellFormed l
 unfolding openMalformed lineOut counterOut monitorOut transmitterOut
-in-order l o e =
+well-formed l o e =
     let f = sym (when-open l o) ∙ e in
     let f6 = neither _ _ f in
     let f5 = neither _ _ (f6 .0) in
@@ -102,17 +124,36 @@ in-order l o e =
       bits = ltb-false (8 * l .settings .m + 7) (l .line .state .bits) (low .1);
       idle = none-while (l .line .state .hunting) (l .line .state .bits) (line .1);
       counter = (ltb-false (l .units .counting .left) 1 (counter .0), ltb-false (l .settings .n) (l .units .counting .left) (counter .1));
-      number = leb-false (l .settings .d) (l .supervision .monitor .number) (mon .0);
-      count = mon .1;
+      monitor =
+          record {
+            number = leb-false (l .settings .d) (l .supervision .monitor .number) (mon .0);
+            count = count-in (l .supervision .monitor .mode) (l .settings) (l .supervision .monitor .count) (mon .1);
+          };
       next = leb-false (l .settings .k) (l .units .slots .next) (f5 .1);
       waiting = ltb-false 7 (l .transmitter .count) (few .0);
       unflagged = λ q. none-while (not (l .transmitter .flagged)) (l .transmitter .count) (few .1) (ap not q);
       wait = not-false _ (send .1);
     }
 
--- the monitor's count fits whatever the mode
-pub count-le : (mode : Mode) (s : Settings) (count : ℕ) → Ranges s → countOut mode s count ≡ false → count ≤ 1024
-count-le Failure s count r e = let z = leb-false (s .t) count e in omega (arith, r .t)
-count-le Alignment s count r e = let z = leb-false (s .a) count e in omega (arith, r .a)
-count-le Idle s count r e = ltb-false 1024 count e
-count-le Off s count r e = ltb-false 1024 count e
+pub not-malformed : (l : Link) → l .opened ≡ true → WellFormed l → malformed l ≡ false
+unfolding openMalformed lineOut counterOut monitorOut transmitterOut
+not-malformed l o w =
+    when-open l o
+    ∙ both-false _ _
+    (both-false _ _
+    (both-false _ _
+    (both-false _ _
+    (both-false _ _ (both-false _ _ (ap not (w .area)) (ap not (in-range (l .settings) (w .settings))))
+    (both-false _ _
+    (both-false _ _ (le-ltb 7 (l .line .state .run) (w .run)) (le-ltb (8 * l .settings .m + 7) (l .line .state .bits) (w .bits)))
+    (none-then (l .line .state .hunting) (l .line .state .bits) (w .idle))))
+    (both-false _ _ (le-ltb (l .units .counting .left) 1 (w .counter .0)) (le-ltb (l .settings .n) (l .units .counting .left) (w .counter .1))))
+    (both-false _ _ (lt-leb (l .settings .d) (l .supervision .monitor .number) (w .monitor .number))
+    (count-out (l .supervision .monitor .mode) (l .settings) (l .supervision .monitor .count) (w .monitor .count))))
+    (lt-leb (l .settings .k) (l .units .slots .next) (w .next)))
+    (both-false _ _
+    (both-false _ _ (le-ltb 7 (l .transmitter .count) (w .waiting)) (not-on (l .transmitter .flagged) (l .transmitter .count) (w .unflagged)))
+    (ap not (w .wait)))
+
+pub well-formed-exactly : WellFormedExactly
+well-formed-exactly l o = (well-formed l o, not-malformed l o)

@@ -4,5 +4,6 @@ pub mod Rows
 pub mod Limits
 pub mod Events
 pub mod Malformed
+pub mod InnerRanges
 pub mod With
 pub mod Promises

@@ -1,9 +1,11 @@
 -- "Rows ready for use".
 use Prim.Native.Nat.{ℕ, _+_, _*_, _<_}
-use mathlib.Core.Bool.{cond}
+use mathlib.Core.Bool.{Bool, false, cond}
 use mathlib.Core.List.{List, [], _∷_}
 use lib.Dec.{leb}
-use lib.ListN.{getD}
+use lib.ListN.{getD, replicate}
+use Rattle.bits.specs.Format.{basic, fillInOctets}
+use Rattle.board.specs.declared.Settings.{Settings}
 use Rattle.board.specs.declared.rows.Row.{Row}
 
 -- none; 1 normal; 2 emergency; 3 short, normal; 4 short, emergency: M, N, T, D and A of each
@@ -26,3 +28,19 @@ rowFrom at =
 
 unfoldable pub rowOf : ℕ → Row
 rowOf number = rowFrom (rowStart number)
+
+-- a row with k slots and the mask all ones, the filter on or off, the other switches off
+abbrev pub rowSettings : ℕ → ℕ → Bool → Settings
+rowSettings number k filter =
+    record {
+      k = k;
+      m = rowOf number .m;
+      n = rowOf number .n;
+      t = rowOf number .t;
+      d = rowOf number .d;
+      a = rowOf number .a;
+      mask = replicate (fillInOctets basic) 255;
+      filter = filter;
+      itu = false;
+      orn = false;
+    }

@@ -10,8 +10,9 @@ use Rattle.framing.specs.declared.Line.{Line}
 use Rattle.framing.specs.declared.Found.{Found}
 use Rattle.framing.specs.declared.Found.the-variants.{Nothing, Closed, Abort, Long}
 use Rattle.framing.specs.declared.Step.{Step}
-use Rattle.framing.specs.Delimitation.{Receiver, Finding, closed, abort, long, stepBit, next, finds, receiverAfter, findings, Reading, readOn, reading}
-use Rattle.framing.specs.Representation.{decode, Holds, wellFormed, shows, isFound, standing, Stepped, FedTo}
+use Rattle.framing.specs.Delimitation.{Receiver, Finding, closed, abort, long, stepBit, next, finds, receiverAfter, findings}
+use Rattle.framing.specs.InnerReading.{Reading, readOn, reading, Holds, wellFormed, shows, isFound, standing, Stepped, FedTo}
+use Rattle.framing.specs.Representation.{decode}
 use Rattle.framing.specs.Promises.{ReadingAfter, ReadingFindings}
 
 -- ---- what a reading leaves is to be read on

@@ -6,7 +6,8 @@ use mathlib.Core.List.{List, [], _∷_, _++_}
 use native.Mathlib.Omega.{arith}
 use lib.ListN.{length, take}
 use lib.Dec.{eqb, ltb}
-use Rattle.framing.specs.Delimitation.{Receiver, Finding, closed, abort, long, hunts, inside, flagged, unit, gather, flag, stepBit, next, finds, Reading, readOn, reading}
+use Rattle.framing.specs.Delimitation.{Receiver, Finding, closed, abort, long, hunts, inside, flagged, unit, gather, flag, stepBit, next, finds}
+use Rattle.framing.specs.InnerReading.{Reading, readOn, reading}
 use Rattle.framing.proofs.Bound.{finds-single}
 
 -- ---- one bit that closes a unit leaves the receiver just after a flag

@@ -16,7 +16,8 @@ use Rattle.framing.specs.declared.Found.{Found}
 use Rattle.framing.specs.declared.Found.the-variants.{Nothing, Closed, Abort, Long}
 use Rattle.framing.specs.declared.Step.{Step}
 use Rattle.framing.specs.Delimitation.{Receiver, Finding, closed, abort, long, hunts, inside, flagged, unit, gather, flag, stepBit}
-use Rattle.framing.specs.Representation.{lineOf, decode, Holds, wellFormed, shows, unitIn, standing, Stepped}
+use Rattle.framing.specs.Representation.{lineOf, decode}
+use Rattle.framing.specs.InnerReading.{Holds, wellFormed, shows, unitIn, standing, Stepped}
 
 abbrev pub stepOf : Line → Found → Step
 stepOf l f = record { line = l; found = f }

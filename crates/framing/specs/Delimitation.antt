@@ -68,17 +68,3 @@ receiverAfter M = run (next M)
 
 abbrev pub findings : ℕ → Receiver → List Bool → List Finding
 findings M = outs (next M) (finds M)
-
--- bits up to and with the first that finds something: the receiver then, the finding, and the bits still to come
-pub record Reading : Type 0 where
-  pub state : Receiver
-  pub found : List Finding
-  pub rest : List Bool
-
-abbrev pub readOn : List Finding → Receiver → List Bool → Reading → Reading
-readOn [] s bs later = later
-readOn (f ∷ fs) s bs later = record { state = s; found = f ∷ fs; rest = bs }
-
-unfoldable pub reading : ℕ → Receiver → List Bool → Reading
-reading M s [] = record { state = s; found = []; rest = [] }
-reading M s (b ∷ bs) = readOn (finds M s b) (next M s b) bs (reading M (next M s b) bs)

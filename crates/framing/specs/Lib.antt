@@ -2,4 +2,6 @@
 pub mod Delimitation
 pub mod Verdict
 pub mod Representation
+pub mod InnerReading
 pub mod Promises
+pub mod Cases

@@ -4,10 +4,12 @@ use mathlib.Core.Bool.{Bool, true}
 use mathlib.Core.List.{List, _++_}
 use Prim.Native.Nat.{ℕ, _+_, _*_, _≤_}
 use lib.ListN.{length}
+use Rattle.bits.specs.Format.{basic, mostLongest}
 use Rattle.bits.specs.Octets.{bitsOf}
 use Rattle.framing.specs.declared.Line.{Line}
-use Rattle.framing.specs.Delimitation.{Receiver, receiverAfter, findings, reading}
-use Rattle.framing.specs.Representation.{decode, encode, encodeArea, wellFormed}
+use Rattle.framing.specs.Delimitation.{Receiver, receiverAfter, findings}
+use Rattle.framing.specs.InnerReading.{reading, wellFormed}
+use Rattle.framing.specs.Representation.{decode, encode, encodeArea}
 
 -- With M at least 7 one line octet brings at most two findings, whatever the receiver's state.
 abbrev pub TwoFindings : Type 0
@@ -25,11 +27,11 @@ ReadingFindings =
 -- Well-formed numbers and area are the encoding of the receiver that they hold,
 abbrev pub EncodesBack : Type 0
 EncodesBack =
-    (M : ℕ) (l : Line) (area : List ℕ) → M ≤ 278 → wellFormed M l area
+    (M : ℕ) (l : Line) (area : List ℕ) → M ≤ mostLongest basic → wellFormed M l area
     → (l ≡ encode (decode l area)) × (area ≡ encodeArea (decode l area))
 
 -- and the encoding of a receiver in range is well-formed and holds that receiver.
 abbrev pub DecodesBack : Type 0
 DecodesBack =
-    (M : ℕ) (s : Receiver) → M ≤ 278 → s .run ≤ 7 → length (s .gathered) ≤ 8 * M + 7 → (s .hunting ≡ true → length (s .gathered) ≡ 0)
+    (M : ℕ) (s : Receiver) → M ≤ mostLongest basic → s .run ≤ 7 → length (s .gathered) ≤ 8 * M + 7 → (s .hunting ≡ true → length (s .gathered) ≡ 0)
     → wellFormed M (encode s) (encodeArea s) × (decode (encode s) (encodeArea s) ≡ s)

@@ -11,6 +11,6 @@ use Rattle.framing.specs.declared.Verdict.the-variants.{Short, NotWhole,
 
 -- "A closed unit of 1 to 39 bits is short [..]. Otherwise: not whole octets, then check wrong, then good."
 unfoldable pub verdictOf : Format → List Bool → Verdict
-verdictOf f u =
-    cond (ltb (length u) (fillInOctets f * 8)) Short
+verdictOf F u =
+    cond (ltb (length u) (fillInOctets F * 8)) Short
     (cond (eqb (length u % 8) 0) (cond (eqb (checkBits 0xffff u) goodResidue) Good CheckWrong) NotWhole)

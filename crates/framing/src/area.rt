@@ -1,7 +1,7 @@
-// The gathering area: bits go in one by one, lowest bit of an octet first, and it is zero past them.
+// The gathering area: bits stand in it lowest bit of an octet first, and it is zero past them.
 ghost use mathlib.Core.Path.{_≡_};
-ghost use mathlib.Core.List.{[], _∷_, _++_};
-ghost use Prim.Native.Nat.{_<_, _≤_};
+ghost use mathlib.Core.List.{[]};
+ghost use Prim.Native.Nat.{_≤_};
 ghost use lib.ListN.{take};
 ghost use Rattle.bits.specs.Octets.{lineBits, packed};
 
@@ -16,17 +16,5 @@ pub fn clear(area: &mut [u8; 279], bits: u16)
     while i < end {
         area[i] = 0;
         i += 1;
-    }
-}
-
-// One more bit in the area, which holds `bits` bits.
-pub fn put_bit(area: &mut [u8; 279], bits: u16, bit: bool)
-    requires { ⌜ bits < 2232 ⌝ }
-    requires { ⌜ now area ≡ packed 279 (take bits (lineBits (now area))) ⌝ }
-    ensures { λ _. ⌜ now (area .exit) ≡ packed 279 (take bits (lineBits (now (area .entry))) ++ (bit ∷ [])) ⌝ }
-{
-    if bit {
-        let at = (bits / 8) as usize;
-        area[at] = area[at] | (1u8 << (bits % 8));
     }
 }

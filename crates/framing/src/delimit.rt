@@ -7,9 +7,24 @@ use crate::area;
 ghost use mathlib.Core.Path.{_≡_};
 ghost use mathlib.Core.Bool.{Bool, true, false};
 ghost use Prim.Native.Nat.{ℕ, _+_, _<_, _≤_, min};
-ghost use Rattle.bits.specs.Octets.{bitsOf};
-ghost use Rattle.framing.specs.Delimitation.{gather, flag, stepBit, reading};
-ghost use Rattle.framing.specs.Representation.{lineOf, decode, wellFormed, Stepped, isFound, FedTo};
+ghost use mathlib.Core.List.{[], _∷_, _++_};
+ghost use lib.ListN.{take};
+ghost use Rattle.bits.specs.Octets.{bitsOf, lineBits, packed};
+ghost use Rattle.framing.specs.Delimitation.{gather, flag, stepBit};
+ghost use Rattle.framing.specs.InnerReading.{reading, wellFormed, Stepped, isFound, FedTo};
+ghost use Rattle.framing.specs.Representation.{lineOf, decode};
+
+// One more bit in the area, which holds `bits` bits.
+fn put_bit(area: &mut [u8; 279], bits: u16, bit: bool)
+    requires { ⌜ bits < 2232 ⌝ }
+    requires { ⌜ now area ≡ packed 279 (take bits (lineBits (now area))) ⌝ }
+    ensures { λ _. ⌜ now (area .exit) ≡ packed 279 (take bits (lineBits (now (area .entry))) ++ (bit ∷ [])) ⌝ }
+{
+    if bit {
+        let at = (bits / 8) as usize;
+        area[at] = area[at] | (1u8 << (bits % 8));
+    }
+}
 
 // Inside a unit: the bit is gathered, or the unit is long.
 fn gather_bit(m: u16, run: u8, bits: u16, area: &mut [u8; 279], bit: bool) -> Step
@@ -28,7 +43,7 @@ fn gather_bit(m: u16, run: u8, bits: u16, area: &mut [u8; 279], bit: bool) -> St
             found: Found::Long,
         };
     }
-    area::put_bit(&mut *area, bits, bit);
+    put_bit(&mut *area, bits, bit);
     Step {
         line: Line {
             run: run,

@@ -12,7 +12,7 @@ use Rattle.units.specs.declared.Taken.{Taken}
 use Rattle.units.specs.Indications.{octetEnd}
 use Rattle.units.specs.Units.{UnitMemory, unitMemory, Effect, effect, unitStateOf, ticks, tickOf, octetEffect, effectOf}
 use Rattle.indications.specs.declared.Progress.{Progress}
-use Rattle.indications.specs.Writing.{holding, indicationsDone, NotedAndRecorded}
+use Rattle.indications.specs.InnerWriting.{holding, indicationsDone, NotedAndRecorded}
 use Rattle.indications.proofs.Recording.{indication-one, indication-quiet}
 
 module _ (s : Settings) (p : Progress) (left : ℕ) (e : left ≡ cond (eqb (p .units .counting .left) 1) (s .n) (p .units .counting .left - 1)) where

@@ -12,14 +12,14 @@ use Rattle.bits.specs.Octets.{lineBits, packed}
 use Rattle.framing.specs.declared.Found.{Found}
 use Rattle.framing.specs.declared.Found.the-variants.{Nothing, Closed, Abort, Long}
 use Rattle.framing.specs.Delimitation.{Finding, closed, abort, long}
-use Rattle.framing.specs.Representation.{shows, unitIn}
+use Rattle.framing.specs.InnerReading.{shows, unitIn}
 use Rattle.board.specs.declared.Supervision.{Supervision}
 use Rattle.board.specs.declared.Settings.{Settings}
 use Rattle.units.specs.declared.Taken.{Taken}
 use Rattle.units.specs.Indications.{Indication, found}
 use Rattle.units.specs.Units.{UnitMemory, unitMemory, Effect, effect, closedUnit, broken, effectOf}
 use Rattle.indications.specs.declared.Progress.{Progress}
-use Rattle.indications.specs.Writing.{Written, holding, indicationsDone, NotedAndRecorded, Shown, StandsIn, areaAfter}
+use Rattle.indications.specs.InnerWriting.{CallState, holding, indicationsDone, NotedAndRecorded, Shown, StandsIn, areaAfter}
 use Rattle.indications.proofs.Recording.{indications-none, indication-one}
 
 -- ---- which findings are shown so
@@ -56,7 +56,7 @@ is-long (long ∷ fs) e l = no-more long fs l
 
 -- ---- the ways
 module _ (s : Settings) (p : Progress) (f : Found) (area pool descriptors out : List ℕ) where
-  abbrev before : Written
+  abbrev before : CallState
   before = holding p pool descriptors out
 
   -- the code ends where the indications of these findings end

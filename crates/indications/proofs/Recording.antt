@@ -13,7 +13,7 @@ use Rattle.board.specs.declared.Supervision.{Supervision}
 use Rattle.records.specs.declared.Noted.{Noted}
 use Rattle.records.specs.Happening.{noted}
 use Rattle.records.specs.Record.{recordOf, supervised, recorded, supervisionAfter, recordsOf}
-use Rattle.records.specs.Promises.{FirstFive, none, more, LimitsInRange, MonitorInRange}
+use Rattle.records.specs.Promises.{FirstFive, none, more}
 use Rattle.records.proofs.Supervising.{supervision-append, records-append, records-length}
 use Rattle.records.proofs.Range.{stays-in-range}
 use Rattle.bits.proofs.Writing.{sets-append}
@@ -25,7 +25,7 @@ use Rattle.units.proofs.UnitStates.{unit-memory-append, happenings-append}
 use Rattle.monitor.specs.declared.Limits.{Limits}
 use Rattle.units.specs.Units.{UnitMemory, unitMemory, Effect, effect, effectOf, nextUnitMemory, happens, unitMemoryAfter, happenings}
 use Rattle.indications.specs.declared.Progress.{Progress}
-use Rattle.indications.specs.Writing.{Written, holding, indicationsDone, NotedAndRecorded}
+use Rattle.indications.specs.InnerWriting.{CallState, holding, indicationsDone, NotedAndRecorded}
 
 -- ---- one happening
 pub note-and-record-way : (s : Settings) (taken : Taken) (w : Supervision) (count : ℕ) (out : List ℕ) (n : Noted) (out′ : List ℕ)
@@ -46,10 +46,10 @@ unfolding recordsOf
 single-record l w h = append-nil (recorded l w h)
 
 -- ---- indications: none, one with one happening, and two parts
-module _ (s : Settings) (w : Written) where
+module _ (s : Settings) (w : CallState) where
   pub indications-none : indicationsDone s w [] ≡ w
   unfolding indicationsDone unitMemoryAfter happenings supervisionAfter recordsOf
-  indications-none = ap {B = Written} (λ (n : ℕ). record { unitMemory = w .unitMemory; supervision = w .supervision; out = w .out; count = n }) (add-zero (w .count))
+  indications-none = ap {B = CallState} (λ (n : ℕ). record { unitMemory = w .unitMemory; supervision = w .supervision; out = w .out; count = n }) (add-zero (w .count))
 
   -- an indication from which one thing happens, put down as it is
   pub indication-one : (m : Indication) (pool descriptors : List ℕ) (taken : Taken) (p : Progress) (out′ : List ℕ)
@@ -63,7 +63,7 @@ module _ (s : Settings) (w : Written) where
       l : Limits
       l = monitorLimits s
 
-      whole : Effect → Written
+      whole : Effect → CallState
       whole x =
           record {
             unitMemory = x .unitMemory;
@@ -78,7 +78,7 @@ module _ (s : Settings) (w : Written) where
       one h p ep out′ eo =
           ap₂ (λ (x : Progress) (y : List ℕ). holding x pool descriptors y) ep
           (eo ∙ ap (sets (w .out) (recordOctets * w .count)) (sym (single-record l (w .supervision) h)))
-          ∙ ap {B = Written}
+          ∙ ap {B = CallState}
           (λ (x : Supervision).
           record {
             unitMemory = unitMemory (taken .units) pool descriptors;
@@ -93,8 +93,8 @@ module _ (s : Settings) (w : Written) where
       → record { unitMemory = o; supervision = w .supervision; out = w .out; count = w .count } ≡ indicationsDone s w (m ∷ [])
   unfolding indicationsDone unitMemoryAfter happenings supervisionAfter recordsOf
   indication-quiet m o e =
-      ap {B = Written} (λ (n : ℕ). record { unitMemory = o; supervision = w .supervision; out = w .out; count = n }) (sym (add-zero (w .count)))
-      ∙ ap {B = Written}
+      ap {B = CallState} (λ (n : ℕ). record { unitMemory = o; supervision = w .supervision; out = w .out; count = n }) (sym (add-zero (w .count)))
+      ∙ ap {B = CallState}
       (λ (x : Effect).
       record {
         unitMemory = x .unitMemory;
@@ -114,7 +114,7 @@ module _ (s : Settings) (w : Written) where
       l : Limits
       l = monitorLimits s
 
-      done : UnitMemory → List Happening → Written
+      done : UnitMemory → List Happening → CallState
       done o hs =
           record {
             unitMemory = o;

@@ -1,2 +1,2 @@
 -- One indication, from unit state to record.
-pub mod Writing
+pub mod InnerWriting

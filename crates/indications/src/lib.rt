@@ -12,12 +12,11 @@ ghost use mathlib.Core.Path.{_≡_};
 ghost use mathlib.Core.List.{List, [], _∷_, map};
 ghost use Prim.Native.Nat.{ℕ, _+_, _*_, _≤_};
 ghost use lib.ListN.{length};
+ghost use Rattle.board.specs.InnerRanges.{SettingsInRange, MonitorInRange};
 ghost use Rattle.board.specs.Limits.{recordOctets, monitorLimits};
-ghost use Rattle.records.specs.Promises.{LimitsInRange, MonitorInRange};
 ghost use Rattle.framing.specs.Delimitation.{Finding};
-ghost use Rattle.units.specs.Indications.{Indication, octetEnd};
-ghost use Rattle.units.specs.Indications.{found as found-indication};
-ghost use Rattle.indications.specs.Writing.{NotedAndRecorded, Able, StandsIn, Shown, areaAfter, holding, indicationsDone};
+ghost use Rattle.units.specs.Indications.{Indication, octetEnd, found as found-indication};
+ghost use Rattle.indications.specs.InnerWriting.{NotedAndRecorded, Able, StandsIn, Shown, areaAfter, holding, indicationsDone};
 
 // Unit state, monitor and event bits, and how many records are written.
 pub struct Progress {
@@ -34,7 +33,7 @@ fn note_and_record(
     count: usize,
     out: &mut [u8],
 ) -> Progress
-    requires { ⌜ LimitsInRange (monitorLimits s) × (MonitorInRange (monitorLimits s) (supervision .monitor)) × (recordOctets * count + recordOctets ≤ length (now out)) ⌝ }
+    requires { ⌜ SettingsInRange s × (MonitorInRange s (supervision .monitor)) × (recordOctets * count + recordOctets ≤ length (now out)) ⌝ }
     ensures { λ r. ⌜ NotedAndRecorded s taken supervision count (now (out .entry)) r (now (out .exit)) ⌝ }
 {
     let limits = Limits {
@@ -96,7 +95,7 @@ pub fn take_found(
 
 // The end of a line octet: N's counter runs, and in octet counting it may tick.
 pub fn end_octet(s: Settings, p: Progress, out: &mut [u8]) -> Progress
-    requires { ⌜ LimitsInRange (monitorLimits s) × (MonitorInRange (monitorLimits s) (p .supervision .monitor)) × (recordOctets * p .count + recordOctets ≤ length (now out)) × (1 ≤ p .units .counting .left) ⌝ }
+    requires { ⌜ SettingsInRange s × (MonitorInRange s (p .supervision .monitor)) × (recordOctets * p .count + recordOctets ≤ length (now out)) × (1 ≤ p .units .counting .left) ⌝ }
     ensures { λ r. ⌜ ((pool descriptors : List ℕ) → holding r pool descriptors (now (out .exit)) ≡ indicationsDone s (holding p pool descriptors (now (out .entry))) (octetEnd ∷ [])) ⌝ }
 {
     let d = p.units;

@@ -61,7 +61,7 @@ wrote l octets pool descriptors records r =
     let b = boardOf l pool descriptors in
     let rs = lineRecords (l .settings) b octets in
     let n : length rs ≡ recordOctets * length (lineHappenings (l .settings) b octets) = records-size (l .settings) b octets in
-    let fit : 0 + length rs ≤ length records = omega (arith, n, three-each (l .settings) b octets (r .order .settings .m .0), r .room) in
+    let fit : 0 + length rs ≤ length records = omega (arith, n, three-each (l .settings) b octets (r .formed .settings .m .0), r .room) in
     ap (take (recordOctets * length (lineHappenings (l .settings) b octets))) (sets-eq rs records 0 fit)
     ∙ take-at rs (drop (0 + length rs) records) (recordOctets * length (lineHappenings (l .settings) b octets)) n
 
@@ -94,14 +94,14 @@ module _ (l : Link) (xs ys pool descriptors records records₁ records₂ : List
     ok₂ = receivable (middle .link) ys (middle .pool) (middle .descriptors) records₂ (second .0)
 
     back : boardOf (middle .link) (middle .pool) (middle .descriptors) ≡ at-middle
-    back = board-back l at-middle (omega (arith, ok₂ .order .bits, ok₂ .order .settings .m))
+    back = board-back l at-middle (omega (arith, ok₂ .formed .bits, ok₂ .formed .settings .m))
 
     boards : boardAfter (l .settings) b (xs ++ ys) ≡ boardAfter (l .settings) (boardOf (middle .link) (middle .pool) (middle .descriptors)) ys
     boards = board-cut (l .settings) b xs ys ∙ ap (λ (x : Board). boardAfter (l .settings) x ys) (sym back)
 
-    in-order-records : written (receiveAnswer l (xs ++ ys) pool descriptors records)
+    records-in-order : written (receiveAnswer l (xs ++ ys) pool descriptors records)
         ≡ written middle ++ written (receiveAnswer (middle .link) ys (middle .pool) (middle .descriptors) records₂)
-    in-order-records =
+    records-in-order =
         ap written (one .1) ∙ wrote l (xs ++ ys) pool descriptors records (receivable l (xs ++ ys) pool descriptors records (one .0))
         ∙ records-cut (l .settings) b xs ys
         ∙ ap₂ (λ (u v : List ℕ). u ++ v) (sym (wrote l xs pool descriptors records₁ ok₁))
@@ -120,7 +120,7 @@ module _ (l : Link) (xs ys pool descriptors records records₁ records₂ : List
       ap (λ (x : ReceiveOutcome). x .pool) (one .1) ∙ ap (λ (x : Board). x .unitMemory .pool) boards ∙ sym (ap (λ (x : ReceiveOutcome). x .pool) (second .1)),
       ap (λ (x : ReceiveOutcome). x .descriptors) (one .1) ∙ ap (λ (x : Board). x .unitMemory .descriptors) boards
           ∙ sym (ap (λ (x : ReceiveOutcome). x .descriptors) (second .1)),
-      in-order-records,
+      records-in-order,
     )
 
 pub line-cut : LineCut

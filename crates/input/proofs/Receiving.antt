@@ -12,26 +12,27 @@ use Rattle.board.specs.Limits.{recordRoom, monitorLimits}
 use Rattle.bits.specs.Octets.{Octets, lineBits, packed}
 use Rattle.framing.specs.declared.Line.{Line}
 use Rattle.framing.specs.Delimitation.{Receiver}
-use Rattle.framing.specs.Representation.{decode, encode, encodeArea, wellFormed}
+use Rattle.framing.specs.Representation.{decode, encode, encodeArea}
+use Rattle.framing.specs.InnerReading.{wellFormed}
 use Rattle.framing.proofs.Encoding.{encodes-back}
 use Rattle.monitor.specs.declared.Mode.{Mode}
 use Rattle.monitor.specs.declared.Mode.the-variants.{Off, Failure, Alignment, Idle}
-use Rattle.records.specs.Promises.{LimitsInRange, MonitorInRange, countInRange}
 use Rattle.board.specs.declared.Settings.{Settings}
 use Rattle.board.specs.declared.Link.{Link}
 use Rattle.board.specs.With.{withReception}
 use Rattle.board.specs.Malformed.{malformed, countOut}
-use Rattle.board.proofs.Ranges.{both, Ranges, InOrder, in-order}
+use Rattle.board.proofs.Ranges.{both, well-formed}
+use Rattle.board.specs.InnerRanges.{SettingsInRange, WellFormed}
 use Rattle.board.proofs.Past.{past-holds}
 use Rattle.units.specs.Indications.{lineReceiver, lineIndications}
 use Rattle.indications.specs.declared.Progress.{Progress}
 use Rattle.reception.specs.declared.Passed.{Passed}
-use Rattle.indications.specs.Writing.{Written, holding, indicationsDone}
+use Rattle.indications.specs.InnerWriting.{CallState, holding, indicationsDone}
 use Rattle.reception.specs.Line.{boardAfter, lineHappenings, lineRecords}
-use Rattle.reception.specs.Writing.{StateInRange, LineTaken}
+use Rattle.reception.specs.InnerWriting.{StateInRange, LineTaken}
 use Rattle.link.specs.Refusals.{fitsMemory}
 use Rattle.input.specs.Refusals.{receiveNumber}
-use Rattle.input.specs.Progress.{progressOf}
+use Rattle.input.specs.InnerProgress.{progressOf}
 use Rattle.input.specs.Receive.{ReceiveOutcome, boardOf, received, receiveAnswer}
 use Rattle.link.proofs.Faults.{none}
 use Rattle.link.proofs.Answers.{done, refused}
@@ -46,17 +47,11 @@ room-for room octets = go (ltb (room / 48) octets) refl
 
 -- ---- what no fault says
 pub record Receivable (l : Link) (octets pool descriptors records : List ℕ) : Type 0 where
-  pub order : InOrder l
+  pub formed : WellFormed l
   pub octets-280 : length pool ≡ 280 * l .settings .k
   pub words-2 : length descriptors ≡ 2 * l .settings .k
   pub few : length octets ≤ 1024
   pub room : recordRoom * length octets ≤ length records
-
-count-in : (mode : Mode) (s : Settings) (count : ℕ) → countOut mode s count ≡ false → countInRange (monitorLimits s) mode count
-count-in Failure s count e = leb-false (s .t) count e
-count-in Alignment s count e = leb-false (s .a) count e
-count-in Idle s count e = ltb-false 1024 count e
-count-in Off s count e = ltb-false 1024 count e
 
 module _ (l : Link) (octets pool descriptors records : List ℕ) where
   pub receivable : receiveNumber l octets pool descriptors records ≡ 0 → Receivable l octets pool descriptors records
@@ -69,7 +64,7 @@ module _ (l : Link) (octets pool descriptors records : List ℕ) where
       let n8 = none _ _ _ (λ z. omega arith) (n7 .1) in
       let fits = both _ _ (not-false _ (n5 .0)) in
       record {
-        order = in-order l (not-false _ (n2 .0)) (n1 .0);
+        formed = well-formed l (not-false _ (n2 .0)) (n1 .0);
         octets-280 = eqb-true _ _ (fits .0);
         words-2 = eqb-true _ _ (fits .1);
         few = ltb-false 1024 (length octets) (n7 .0);
@@ -77,29 +72,26 @@ module _ (l : Link) (octets pool descriptors records : List ℕ) where
       }
 
   module _ (r : Receivable l octets pool descriptors records) where
-    s : Ranges (l .settings)
-    s = r .order .settings
-
-    pub limits : LimitsInRange (monitorLimits (l .settings))
-    limits = record { t-low = s .t .0; t-high = s .t .1; d-low = s .d .0; d-high = s .d .1; a-low = s .a .0; a-high = s .a .1 }
+    s : SettingsInRange (l .settings)
+    s = r .formed .settings
 
     pub ready : StateInRange (l .settings) (holding (progressOf l) pool descriptors records)
     ready =
         record {
-          monitor = record { number = r .order .number; count = count-in (l .supervision .monitor .mode) (l .settings) (l .supervision .monitor .count) (r .order .count) };
+          monitor = r .formed .monitor;
           fits =
-              record { slots = s .k; octets = r .octets-280; words = r .words-2; next = r .order .next; counter = r .order .counter .0; reload = s .n .0 };
+              record { slots = s .k; octets = r .octets-280; words = r .words-2; next = r .formed .next; counter = r .formed .counter .0; reload = s .n .0 };
         }
 
     pub held : (length (l .line .area) ≡ 279) × Octets (l .line .area) → wellFormed (l .settings .m) (l .line .state) (l .line .area)
     held a =
         record {
-          run≤7 = r .order .run;
-          room = r .order .bits;
-          idle = r .order .idle;
-          fits = r .order .bits;
+          run≤7 = r .formed .run;
+          room = r .formed .bits;
+          idle = r .formed .idle;
+          fits = r .formed .bits;
           zeroed =
-              past-holds (l .line .state .bits) (l .line .area) (a .1) (r .order .area)
+              past-holds (l .line .state .bits) (l .line .area) (a .1) (r .formed .area)
               ∙ ap (λ (n : ℕ). packed n (take (l .line .state .bits) (lineBits (l .line .area)))) (a .0);
         }
 
@@ -118,12 +110,12 @@ module _ (l : Link) (octets pool descriptors records : List ℕ) where
   unfolding indicationsDone boardAfter lineHappenings lineRecords
   is-received p area′ pool′ descriptors′ records′ m t =
       let g : Receiver = lineReceiver (l .settings .m) (decode (l .line .state) (l .line .area)) octets in
-      let w = t .written in
+      let w = t .done in
       let back = encodes-back (l .settings .m) (p .line) area′ m (t .held) in
       let state : p .line ≡ encode g = back .0 ∙ ap encode (t .receiver) in
       let area : area′ ≡ encodeArea g = back .1 ∙ ap encodeArea (t .receiver) in
       let count : p .progress .count ≡ length (lineHappenings (l .settings) (boardOf l pool descriptors) octets) =
-      ap (λ (x : Written). x .count) w ∙ zero-add (length (lineHappenings (l .settings) (boardOf l pool descriptors) octets)) in
+      ap (λ (x : CallState). x .count) w ∙ zero-add (length (lineHappenings (l .settings) (boardOf l pool descriptors) octets)) in
       λ i.
       record {
         number = 0;

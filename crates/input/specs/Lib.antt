@@ -1,5 +1,5 @@
 -- Receive.
 pub mod Refusals
 pub mod Receive
-pub mod Progress
+pub mod InnerProgress
 pub mod Promises

@@ -6,7 +6,7 @@ use indications::Progress;
 ghost use mathlib.Core.Path.{_≡_};
 ghost use Rattle.board.specs.With.{withReception};
 ghost use Rattle.input.specs.Refusals.{receiveNumber};
-ghost use Rattle.input.specs.Progress.{progressOf};
+ghost use Rattle.input.specs.InnerProgress.{progressOf};
 ghost use Rattle.input.specs.Receive.{receiveAnswer};
 
 // The number, the link, and how many records were written.

@@ -1,7 +1,8 @@
 -- The program's case, computed: the calls one after the other, from the new link to the records.
 use mathlib.Core.Path.{refl}
 use Rattle.bits.specs.Octets.{bitsOf, lineBits, octetOf, packed, wholeOctets}
-use Rattle.framing.specs.Delimitation.{stepBit, reading}
+use Rattle.framing.specs.Delimitation.{stepBit}
+use Rattle.framing.specs.InnerReading.{reading}
 use Rattle.framing.specs.Verdict.{verdictOf}
 use Rattle.monitor.specs.Monitor.{step}
 use Rattle.memory.specs.Lent.{zeros, emptyDescriptors}

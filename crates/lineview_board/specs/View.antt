@@ -4,30 +4,18 @@ use Prim.Native.Nat.{ℕ, zero, suc, _*_}
 use mathlib.Core.Bool.{false}
 use mathlib.Core.List.{List, [], _∷_}
 use lib.ListN.{take, replicate}
-use Rattle.board.specs.Limits.{recordOctets}
+use Rattle.board.specs.Limits.{recordOctets, recordRoom}
 use Rattle.bits.specs.Machine.{outs}
 use Rattle.board.specs.declared.Settings.{Settings}
 use Rattle.board.specs.declared.Link.{Link}
 use Rattle.board.specs.Link.{newLink}
-use Rattle.board.specs.Rows.{rowOf}
+use Rattle.board.specs.Rows.{rowSettings}
 use Rattle.link.specs.Calls.{openAnswer, commandAnswer}
 use Rattle.link.specs.Held.{Held, handedBack}
 use Rattle.input.specs.Receive.{ReceiveOutcome, receiveAnswer}
 
 abbrev pub rowOne : Settings
-rowOne =
-    record {
-      k = 16;
-      m = rowOf 1 .m;
-      n = rowOf 1 .n;
-      t = rowOf 1 .t;
-      d = rowOf 1 .d;
-      a = rowOf 1 .a;
-      mask = 255 ∷ 255 ∷ 255 ∷ 255 ∷ 255 ∷ [];
-      filter = false;
-      itu = false;
-      orn = false;
-    }
+rowOne = rowSettings 1 16 false
 
 -- opened, then command 2
 unfoldable pub boardOpened : List ℕ → List ℕ → Held
@@ -61,11 +49,11 @@ fed l octet pool descriptors records =
 -- the booking after one line octet, for which a clear record area is lent
 abbrev pub passed : Held → ℕ → Held
 passed h octet =
-    let f = fed (h .link) octet (h .pool) (h .descriptors) (replicate 48 0) in record { link = f .link; pool = f .pool; descriptors = f .descriptors }
+    let f = fed (h .link) octet (h .pool) (h .descriptors) (replicate recordRoom 0) in record { link = f .link; pool = f .pool; descriptors = f .descriptors }
 
 -- "writes records": those of each octet, as they come
 abbrev pub viewRecords : Held → ℕ → List ℕ
-viewRecords h octet = let f = fed (h .link) octet (h .pool) (h .descriptors) (replicate 48 0) in take (recordOctets * f .count) (f .records)
+viewRecords h octet = let f = fed (h .link) octet (h .pool) (h .descriptors) (replicate recordRoom 0) in take (recordOctets * f .count) (f .records)
 
 unfoldable pub allWritten : Held → List ℕ → List ℕ
 allWritten h octets = outs passed viewRecords h octets

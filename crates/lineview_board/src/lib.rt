@@ -1,11 +1,7 @@
 // The booking that lineview views the line through, and what one line octet does to it.
 use board::Link;
 use board::Settings;
-use board::rows;
 use input::Received;
-use link::booking;
-use link::commands;
-use link::slots;
 ghost use mathlib.Core.Path.{_≡_};
 ghost use Prim.Native.Nat.{_*_, _≤_};
 ghost use lib.ListN.{length};
@@ -16,9 +12,9 @@ ghost use Rattle.lineview_board.specs.View.{rowOne, boardOpened, filledB
 fn settings() -> Settings
     ensures { λ r. ⌜ r ≡ rowOne ⌝ }
 {
-    let row = rows::numbers(1);
+    let row = calls::numbers(1);
     Settings {
-        k: 16,
+        k: Link::MOST_SLOTS,
         m: row.m,
         n: row.n,
         t: row.t,
@@ -37,8 +33,8 @@ pub fn open_board(pool: &mut [u8], descriptors: &mut [u16]) -> Link
 {
     let closed = Link::new();
     let s = settings();
-    let opened = booking::open(closed, s, pool, descriptors);
-    let started = commands::command(opened.link, 2);
+    let opened = calls::open(closed, s, pool, descriptors);
+    let started = calls::command(opened.link, 2);
     started.link
 }
 
@@ -48,8 +44,8 @@ fn hand_back_filled(link: Link, pool: &mut [u8], descriptors: &mut [u16]) -> Lin
 {
     let mut l = link;
     let mut slot: u16 = 0;
-    while slot < 16 {
-        let answer = slots::hand_back(l, &mut *pool, &mut *descriptors, slot);
+    while slot < Link::MOST_SLOTS {
+        let answer = calls::hand_back(l, &mut *pool, &mut *descriptors, slot);
         l = answer.link;
         slot += 1;
     }
@@ -67,7 +63,7 @@ pub fn feed(
     ensures { λ r. ⌜ record { number = r .number; link = r .link; count = r .count; pool = now (pool .exit); descriptors = now (descriptors .exit); records = now (records .exit) } ≡ fed link octet (now (pool .entry)) (now (descriptors .entry)) (now (records .entry)) ⌝ }
 {
     let octets = [octet];
-    let got = input::receive(link, &octets, &mut *pool, &mut *descriptors, records);
+    let got = calls::receive(link, &octets, &mut *pool, &mut *descriptors, records);
     let l = hand_back_filled(got.link, pool, descriptors);
     Received {
         number: got.number,
@@ -81,8 +77,8 @@ pub fn octets_of(count: usize, records: &[u8]) -> usize
     ensures { λ r. ⌜ r ≤ length (now (records .entry)) ⌝ }
     ensures { λ r. ⌜ (recordOctets * count ≤ length (now (records .entry)) → r ≡ recordOctets * count) ⌝ }
 {
-    if count <= records.len() / 16 {
-        16 * count
+    if count <= records.len() / Link::RECORD {
+        Link::RECORD * count
     } else {
         records.len()
     }

@@ -27,7 +27,7 @@ fn write_records(records: &[u8], count: usize) -> bool {
 fn pass(link: Link, octet: u8, pool: &mut [u8], descriptors: &mut [u16]) -> Session
     ensures { λ r. ⌜ record { link = r .link; pool = now (pool .exit); descriptors = now (descriptors .exit) } ≡ passed (record { link = link; pool = now (pool .entry); descriptors = now (descriptors .entry) }) octet ⌝ }
 {
-    let mut records = [0u8; 48];
+    let mut records = [0u8; Link::RECORDS];
     let fed = lineview_board::feed(link, octet, pool, descriptors, &mut records);
     let is_written = write_records(&records, fed.count);
     let l = fed.link;
@@ -86,7 +86,7 @@ fn run(link: Link, pool: &mut [u8], descriptors: &mut [u16]) {
 
 // A booking on its own memory, and all of standard input.
 pub fn view_input() {
-    let mut pool = [0u8; 4480];
+    let mut pool = [0u8; Link::SLOT * 16];
     let mut descriptors = [0u16; 32];
     let link = lineview_board::open_board(&mut pool, &mut descriptors);
     run(link, &mut pool, &mut descriptors);

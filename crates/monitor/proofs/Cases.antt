@@ -16,11 +16,11 @@ use Rattle.monitor.proofs.Alarms.{off-or-idle-stays}
 -- P8 and P9 by computation
 pub p8 : P8
 unfolding alarms step
-p8 = refl
+p8 A = refl
 
 pub p9 : P9
 unfolding alarms step
-p9 = refl
+p9 A = refl
 
 -- P10: every event is a decay point and leaves the monitor as it was started
 as-started : (A : ℕ) (e : Bool) → step (limitsOf 2 1 A) (started Failure) e ≡ gives (started Failure) Nothing

@@ -78,17 +78,13 @@ SixtyFourPass =
     (A : ℕ) → alarms (limitsOf 64 256 A) (started Failure) (replicate 224 false ++ replicate 64 true) ≡ replicate 288 Nothing
 
 -- ---- Proved cases
--- "1 normal"
-abbrev pub row1 : Limits
-row1 = limitsOf 64 256 4
-
--- "P8 row 1, all errored: alarm at event 64", and at none before.
+-- "P8 row 1, all errored: alarm at event 64", and at none before. Row 1 has T = 64 and D = 256.
 abbrev pub P8 : Type 0
-P8 = alarms row1 (started Failure) (replicate 64 true) ≡ replicate 63 Nothing ++ (Suer ∷ [])
+P8 = (A : ℕ) → alarms (limitsOf 64 256 A) (started Failure) (replicate 64 true) ≡ replicate 63 Nothing ++ (Suer ∷ [])
 
 -- "P9 255 good, then errored: alarm at 320, not 319."
 abbrev pub P9 : Type 0
-P9 = alarms row1 (started Failure) (replicate 255 false ++ replicate 65 true) ≡ replicate 319 Nothing ++ (Suer ∷ [])
+P9 = (A : ℕ) → alarms (limitsOf 64 256 A) (started Failure) (replicate 255 false ++ replicate 65 true) ≡ replicate 319 Nothing ++ (Suer ∷ [])
 
 -- "P10 T = 2, D = 1: never."
 abbrev pub P10 : Type 0

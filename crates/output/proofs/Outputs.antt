@@ -14,23 +14,26 @@ use Rattle.bits.specs.Format.{basic}
 use Rattle.bits.specs.Octets.{bitsOf, lineBits, octetOf}
 use Rattle.sending.specs.declared.Tx.{Tx}
 use Rattle.sending.specs.Stuffing.{flag, unitLine}
-use Rattle.sending.specs.Packing.{octetsOut, stillWaiting, afterBits, areaPut, Puts, TxInRange, Room}
+use Rattle.sending.specs.Packing.{octetsOut, stillWaiting}
+use Rattle.sending.specs.InnerPutting.{afterBits, areaPut, Puts, TxInRange, Room}
 use Rattle.sending.proofs.Puttings.{ready-after, place-after, puts-append, written-append}
 use Rattle.sending.proofs.Stuffs.{unit-length}
 use Rattle.board.specs.declared.Transmitter.{Transmitter}
 use Rattle.board.specs.declared.Link.{Link}
 use Rattle.board.specs.Malformed.{zeroPast, noOnes}
-use Rattle.board.proofs.Ranges.{neither, InOrder, in-order}
+use Rattle.board.proofs.Ranges.{neither, well-formed}
+use Rattle.board.specs.InnerRanges.{WellFormed}
 use Rattle.board.proofs.Past.{part-above}
 use Rattle.link.specs.Refusals.{first}
 use Rattle.link.proofs.Faults.{none}
 use Rattle.link.proofs.Answers.{done, refused}
-use Rattle.output.specs.Refusals.{sendNumber, fillNumber, sharedNumber}
+use Rattle.output.specs.Refusals.{sendNumber, fillNumber}
+use Rattle.output.specs.InnerRefusals.{sharedNumber}
 use Rattle.output.specs.Output.{sender, firstFlag, unitOut, fillContent, fillOut, fillEvent, linkSent, putOut, notSent, sendAnswer, fillAnswer}
 
 -- ---- what no fault says
 pub record Ready-to-put (l : Link) (output : List ℕ) : Type 0 where
-  pub order : InOrder l
+  pub formed : WellFormed l
   pub room : 336 ≤ length output
 
 -- fill's number is that of the faults it shares with send
@@ -44,7 +47,7 @@ fillable l output e =
     let n1 = none _ _ _ (λ z. omega arith) e in
     let n2 = none _ _ _ (λ z. omega arith) (n1 .1) in
     let n9 = none _ _ _ (λ z. omega arith) (n2 .1) in
-    record { order = in-order l (not-false _ (n2 .0)) (n1 .0); room = ltb-false (length output) 336 (n9 .0) }
+    record { formed = well-formed l (not-false _ (n2 .0)) (n1 .0); room = ltb-false (length output) 336 (n9 .0) }
 
 pub sendable : (l : Link) (content output : List ℕ) → sendNumber l content output ≡ 0
     → Ready-to-put l output × (3 ≤ length content) × (length content ≤ 276)
@@ -55,7 +58,7 @@ sendable l content output e =
     let n9 = none _ _ _ (λ z. omega arith) (n2 .1) in
     let n10 = none _ _ _ (λ z. omega arith) (n9 .1) in
     let sizes = neither (ltb (length content) 3) (ltb 276 (length content)) (n10 .0) in (
-      record { order = in-order l (not-false _ (n2 .0)) (n1 .0); room = ltb-false (length output) 336 (n9 .0) },
+      record { formed = well-formed l (not-false _ (n2 .0)) (n1 .0); room = ltb-false (length output) 336 (n9 .0) },
       ltb-false (length content) 3 (sizes .0),
       ltb-false 276 (length content) (sizes .1),
     )
@@ -72,7 +75,7 @@ below n x few typed e =
     bits : bitsOf 8 x ≡ lineBits (x ∷ [])
     bits = sym (append-nil (bitsOf 8 x))
 
-pub ready : (l : Link) → InOrder l → l .transmitter .wait < 256 → TxInRange (sender (l .transmitter))
+pub ready : (l : Link) → WellFormed l → l .transmitter .wait < 256 → TxInRange (sender (l .transmitter))
 ready l o typed =
     record { few = o .waiting; low = below (l .transmitter .count) (l .transmitter .wait) (o .waiting) typed (o .wait); short = omega arith }
 
@@ -90,11 +93,11 @@ unit-room l content output r h =
       r .room,
       unit-length content h,
       length-append (firstFlag (l .transmitter .flagged)) (unitLine content),
-      first-short (l .transmitter .flagged) (l .transmitter .count) (r .order .waiting) (r .order .unflagged),
+      first-short (l .transmitter .flagged) (l .transmitter .count) (r .formed .waiting) (r .formed .unflagged),
     )
 
 pub flag-room : (l : Link) (output : List ℕ) → Ready-to-put l output → Room (sender (l .transmitter)) flag output
-flag-room l output r = omega (arith, r .room, r .order .waiting)
+flag-room l output r = omega (arith, r .room, r .formed .waiting)
 
 -- ---- a unit with or without a flag before it
 module _ (t : Transmitter) (content output : List ℕ) where

@@ -1,3 +1,4 @@
 -- Send and fill.
 pub mod Refusals
+pub mod InnerRefusals
 pub mod Output

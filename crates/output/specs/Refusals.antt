@@ -1,6 +1,6 @@
 -- The refusals of send and fill, in rising number.
 use Prim.Native.Nat.{ℕ}
-use mathlib.Core.Bool.{Bool, not, _||_, cond}
+use mathlib.Core.Bool.{Bool, not, _||_}
 use mathlib.Core.List.{List, [], _∷_}
 use lib.Dec.{ltb}
 use lib.ListN.{length}
@@ -33,7 +33,3 @@ fillNumber l output = first (fillFaults l output)
 
 unfoldable pub sendNumber : Link → List ℕ → List ℕ → ℕ
 sendNumber l content output = first (sendFaults l content output)
-
--- the same with the faults that both calls have asked once, before those of the content
-abbrev pub sharedNumber : Link → List ℕ → ℕ → ℕ
-sharedNumber l output rest = cond (malformed l) 1 (cond (not (l .opened)) 2 (cond (outputShort basic output) 9 rest))

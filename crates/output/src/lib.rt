@@ -4,8 +4,9 @@ use board::Transmitter;
 use board::wellformed;
 use sending::Tx;
 ghost use mathlib.Core.Path.{_≡_};
-ghost use Rattle.sending.specs.Packing.{Puts, TxInRange, Room};
-ghost use Rattle.output.specs.Refusals.{sendNumber, sharedNumber};
+ghost use Rattle.sending.specs.InnerPutting.{Puts, TxInRange, Room};
+ghost use Rattle.output.specs.Refusals.{sendNumber};
+ghost use Rattle.output.specs.InnerRefusals.{sharedNumber};
 ghost use Rattle.output.specs.Output.{sender, unitOut, linkSent, sendAnswer, fillAnswer};
 
 // The number, the link, and how many octets were put out.

@@ -5,34 +5,17 @@ use mathlib.Core.Bool.{Bool, true, false}
 use mathlib.Core.List.{List, [], _∷_, _++_}
 use lib.ListN.{replicate, getD, drop}
 use Rattle.memory.specs.Lent.{emptyDescriptors}
-use Rattle.board.specs.declared.Settings.{Settings}
 use Rattle.board.specs.declared.Link.{Link}
-use Rattle.board.specs.Rows.{rowOf}
+use Rattle.board.specs.Rows.{rowSettings}
 use Rattle.link.specs.declared.commands.CommandCode.the-variants.{StartFailure}
 use Rattle.link.specs.Commands.{obeyed}
 use Rattle.link.specs.Calls.{openedLink, handAnswer}
 use Rattle.input.specs.Receive.{ReceiveOutcome, receiveAnswer}
 use Rattle.input.specs.Promises.{written}
 
--- row 1 with k slots, a mask that keeps all bits, and the filter on or off
-abbrev pub bench : ℕ → Bool → Settings
-bench k filter =
-    record {
-      k = k;
-      m = rowOf 1 .m;
-      n = rowOf 1 .n;
-      t = rowOf 1 .t;
-      d = rowOf 1 .d;
-      a = rowOf 1 .a;
-      mask = 255 ∷ 255 ∷ 255 ∷ 255 ∷ 255 ∷ [];
-      filter = filter;
-      itu = false;
-      orn = false;
-    }
-
 -- opened, and the failure monitor started
 abbrev pub benchStarted : ℕ → Bool → Link
-benchStarted k filter = obeyed StartFailure (openedLink (bench k filter))
+benchStarted k filter = obeyed StartFailure (openedLink (rowSettings 1 k filter))
 
 -- P2: 7E 00 00 00 7E gives 05 00 03 00 and twelve octets 00.
 abbrev pub P2 : Type 0

@@ -26,7 +26,7 @@ use Rattle.board.specs.declared.Supervision.{Supervision}
 use Rattle.records.specs.Happening.{noted}
 use Rattle.records.specs.Record.{supervised, recordsOf}
 use Rattle.units.specs.Indications.{Indication, found, octetEnd, lineIndications}
-use Rattle.units.specs.Fit.{Fits}
+use Rattle.units.specs.InnerFit.{Fits}
 use Rattle.units.specs.Units.{UnitMemory, Effect, effect, unitStateOf, oneMore, unitOf, isFree, handOver, counted, goodUnit, closedUnit, octetEffect, effectOf, nextUnitMemory, unitMemoryAfter, happenings}
 use Rattle.reception.specs.Line.{Board, boardAfter, lineHappenings, lineRecords}
 use Rattle.reception.proofs.Octets.{single-octet}

@@ -14,8 +14,7 @@ use Rattle.reception.proofs.Cutting.{board-cut, records-cut}
 use Rattle.input.specs.Receive.{ReceiveOutcome, boardOf, received}
 use Rattle.input.specs.Promises.{written}
 use Rattle.input.proofs.Receiving.{Receivable, receivable}
-use Rattle.input.proofs.Cutting.{answered, board-back}
-use Rattle.input.proofs.Cutting.{wrote as wrote-line}
+use Rattle.input.proofs.Cutting.{answered, board-back, wrote as wrote-line}
 use Rattle.link.specs.Held.{Held}
 use Rattle.readback.specs.Feeding.{board, Feed, answer, fed, wrote, heldAfter, recordsFed, octetsFed, none, more}
 use Rattle.readback.specs.Reading.{FedAsOne}
@@ -24,7 +23,7 @@ use Rattle.readback.proofs.Gathered.{line-held}
 -- the bits gathered in a link that can receive
 pub few-gathered : (h : Held) (octets records : List ℕ) → Receivable (h .link) octets (h .pool) (h .descriptors) records
     → length (board h .receiver .gathered) ≤ 8 * h .link .settings .m + 7
-few-gathered h octets records r = omega (arith, length-take (h .link .line .state .bits) (lineBits (h .link .line .area)), r .order .bits)
+few-gathered h octets records r = omega (arith, length-take (h .link .line .state .bits) (lineBits (h .link .line .area)), r .formed .bits)
 
 -- ---- one call
 module _ (h : Held) (f : Feed) (z : answer h f .number ≡ 0) where
@@ -53,7 +52,7 @@ module _ (h : Held) (f : Feed) (z : answer h f .number ≡ 0) where
       omega (
         arith,
         line-held (S .m) (f .octets) (board h .receiver) (few-gathered h (f .octets) (f .records) can-receive),
-        can-receive .order .settings .m,
+        can-receive .formed .settings .m,
       )
 
   -- the board that it leaves is that of its line

@@ -9,6 +9,7 @@ use borrow.Author.Tests.{eq-eqb, eqb-true, eqb-false}
 use lib.Bits.{bitOr}
 use lib.Dec.{eqb}
 use lib.ListN.{length}
+use Rattle.bits.specs.Format.{basic}
 use Rattle.memory.specs.declared.Status.the-variants as statuses
 use Rattle.bits.specs.Octets.{bitsOf, lineBits}
 use Rattle.bits.specs.Machine.{outs, outs-append}
@@ -102,7 +103,7 @@ unit-over : (s : Settings) (o : UnitMemory) (c : List ℕ) → s .filter ≡ fal
     → statusOf (o .descriptors) (o .units .slots .next) ≡ statusWord statuses.Empty
     → effectOf s o (found (closed (unitBits c))) ≡ over s o (unitOctets c)
 unit-over s o c e a f =
-    handed-over s o (unitBits c) (unitOctets c) (sent-good c (a .least)) (sent-octets c (a .octets)) e
+    handed-over s o (unitBits c) (unitOctets c) (sent-good basic c (a .least)) (sent-octets c (a .octets)) e
     (eq-eqb (statusOf (o .descriptors) (o .units .slots .next)) (statusWord statuses.Empty) f)
 
 -- ---- units in order

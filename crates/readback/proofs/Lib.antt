@@ -7,7 +7,7 @@ pub mod Standing
 pub mod Pieces
 pub mod Handing
 pub mod Stream
-pub mod Formed
+pub mod Counter
 pub mod Using
 pub mod Sends
 pub mod Rounds

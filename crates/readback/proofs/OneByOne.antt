@@ -19,8 +19,7 @@ use Rattle.transmission.specs.Transmission.{fillsFirst, contents}
 use Rattle.link.specs.Held.{Held}
 use Rattle.readback.specs.Feeding.{board, Feed, answer, fed}
 use Rattle.readback.specs.SlotRing.{unitOctets, SlotRing, ringAfter}
-use Rattle.readback.specs.Streams.{AllAllowed, closedOut}
-use Rattle.readback.specs.Streams.{none as none-allowed, more as more-allowed}
+use Rattle.readback.specs.Streams.{AllAllowed, closedOut, none as none-allowed, more as more-allowed}
 use Rattle.readback.specs.Using.{InUse}
 use Rattle.readback.specs.Rounds.{Round, roundDone, octetsOfRounds, Roomy, none, more, ringOf}
 use Rattle.readback.specs.Promises.{line}
@@ -73,7 +72,7 @@ module _ (k : ℕ) (h : Held) (clear : Clear k h) (x : ℕ) (xs : List ℕ) (ws 
       at-most-one (h .link .settings .m) (lineBits (x ∷ [])) (board h .receiver) (p .early) (omega (arith, length-lineBits (x ∷ []))) (p .first)
 
   fits-one : 1 ≤ h .link .settings .k
-  fits-one = can-receive h f zero-answered .order .settings .k .0
+  fits-one = can-receive h f zero-answered .formed .settings .k .0
 
   every-empty : (slot : ℕ) → slot < h .link .settings .k → statusOf (h .descriptors) slot ≡ statusWord statuses.Empty
   every-empty slot b = clear .empty-each slot (omega (arith, clear .size))
@@ -92,8 +91,8 @@ module _ (k : ℕ) (h : Held) (clear : Clear k h) (x : ℕ) (xs : List ℕ) (ws 
       let can = can-receive h f zero-answered in
       let a = both-allowed (h .link .settings .m) (p .early) (p .late) (subst (AllAllowed (h .link .settings .m)) (p .is) (r .allowed)) in
       subst (λ (s : SlotRing). Returnable (s .descriptors) slot) (sym (this .ring))
-      (ring-returnable (h .link .settings .k) (h .link .settings .m) (ringOf h) (p .early) one (a .0) (can .order .settings .m .1)
-      (omega (arith, can .order .next, can .words-2)) slot (clear .empty-each slot b))
+      (ring-returnable (h .link .settings .k) (h .link .settings .m) (ringOf h) (p .early) one (a .0) (can .formed .settings .m .1)
+      (omega (arith, can .formed .next, can .words-2)) slot (clear .empty-each slot b))
 
   -- every slot is empty again,
   then-clear : Clear k (roundDone h t)

@@ -37,15 +37,12 @@ use Rattle.input.proofs.Cutting.{answered}
 use Rattle.link.specs.Held.{Held, handedBack}
 use Rattle.readback.specs.Feeding.{board, Feed, answer, fed, wrote}
 use Rattle.readback.specs.SlotRing.{SlotRing, ringWith, ringAfter, ringRecords}
-use Rattle.readback.specs.Streams.{AllAllowed, closedOut}
-use Rattle.readback.specs.Streams.{none as none-allowed, more as more-allowed}
+use Rattle.readback.specs.Streams.{AllAllowed, closedOut, none as none-allowed, more as more-allowed}
 use Rattle.readback.specs.Rounds.{Round, roundDone, octetsOfRounds, Roomy, none, more, ringOf, HandsOver, StreamRounds}
 use Rattle.readback.proofs.Closing.{by-bits}
 use Rattle.readback.proofs.Feeding.{can-receive, same-settings, board-fed, records-wrote}
-use Rattle.readback.proofs.Pieces.{stream-found}
-use Rattle.readback.proofs.Pieces.{found as closings}
-use Rattle.readback.proofs.Handing.{foundIn, found-line, Free, Handed, handeds, all-handed, unsupervised, handed-records, handed-unsupervised}
-use Rattle.readback.proofs.Handing.{ringOf as ringOfUnits}
+use Rattle.readback.proofs.Pieces.{stream-found, found as closings}
+use Rattle.readback.proofs.Handing.{foundIn, found-line, Free, Handed, handeds, all-handed, unsupervised, handed-records, handed-unsupervised, ringOf as ringOfUnits}
 use Rattle.readback.proofs.Stream.{fresh, closed-allowed}
 
 -- ---- findings in two parts are those of units in two parts
@@ -221,7 +218,7 @@ module _ (h : Held) (f : Feed) (z : answer h f .number ≡ 0) where
       let us = p .early in
       let a = both-allowed (S .m) us (p .late) (subst (AllAllowed (S .m)) (p .is) (r .allowed)) in
       let marked : foundIn indications ≡ closings us = found-line (S .m) (f .octets) R ∙ p .first in
-      let free = every-free (S .k) (length us) (ringOf h) few (can-receive h f z .order .next) empty in
+      let free = every-free (S .k) (length us) (ringOf h) few (can-receive h f z .formed .next) empty in
       let is = all-handed S (r .off) indications us O (a .0) free (r .still) marked in
       let same = same-settings h f z in
       record {

@@ -12,17 +12,17 @@ use Rattle.sending.specs.Packing.{stillWaiting}
 use Rattle.sending.proofs.Puttings.{nothing-lost}
 use Rattle.board.specs.declared.Link.{Link}
 use Rattle.board.specs.Malformed.{zeroPast, malformed}
-use Rattle.board.proofs.Ranges.{InOrder, in-order}
+use Rattle.board.proofs.Ranges.{well-formed, not-malformed}
+use Rattle.board.specs.InnerRanges.{WellFormed}
 use Rattle.link.specs.Refusals.{first}
 use Rattle.output.specs.Refusals.{sendNumber, fillNumber}
 use Rattle.output.specs.Output.{OutputOutcome, sender}
-use Rattle.transmission.specs.Transmission.{Sending, send, fill, answer, sentOn, linkAfter}
-use Rattle.transmission.specs.Transmission.{none as no-calls, more as one-call}
+use Rattle.transmission.specs.Transmission.{Sending, send, fill, answer, sentOn, linkAfter, none as no-calls, more as one-call}
 use Rattle.transmission.proofs.Calls.{bitsOut, numberOf, put, accepted, is-done}
 use Rattle.transmission.proofs.Line.{few-two, two-kept}
 use Rattle.link.specs.Held.{Held}
 use Rattle.readback.specs.Using.{InUse, Fitting, none, more, SendsInUse}
-use Rattle.readback.proofs.Formed.{orderly, in-range, packed-past}
+use Rattle.board.proofs.Past.{packed-past}
 
 -- the waiting octet is zero past the bits that wait
 wait-past : (g : List Bool) → length g ≤ 7 → zeroPast (length g) (octetOf g ∷ []) ≡ true
@@ -39,9 +39,9 @@ module _ (h : Held) (s : Sending) (u : InUse h) (fits : Fitting s) where
   no-fault : numberOf (h .link) s ≡ 0
   no-fault = no-fault-of (h .link) s (u .formed) (u .opened) fits
 
-  order-after : InOrder (put (h .link) s .link)
-  order-after =
-      let o = in-order (h .link) (u .opened) (u .formed) in
+  formed-after : WellFormed (put (h .link) s .link)
+  formed-after =
+      let o = well-formed (h .link) (u .opened) (u .formed) in
       let still = stillWaiting (sender (h .link .transmitter)) (bitsOut (h .link) s) in
       let few = nothing-lost (sender (h .link .transmitter)) (bitsOut (h .link) s) .1 in
       record {
@@ -51,8 +51,7 @@ module _ (h : Held) (s : Sending) (u : InUse h) (fits : Fitting s) where
         bits = o .bits;
         idle = o .idle;
         counter = o .counter;
-        number = o .number;
-        count = o .count;
+        monitor = o .monitor;
         next = o .next;
         waiting = few;
         unflagged = λ e. absurd (false≢true (sym e));
@@ -67,7 +66,7 @@ module _ (h : Held) (s : Sending) (u : InUse h) (fits : Fitting s) where
       subst (λ (x : OutputOutcome). InUse (record { link = x .link; pool = h .pool; descriptors = h .descriptors })) (sym (is-done (h .link) s no-fault))
       (record {
         opened = u .opened;
-        formed = orderly (put (h .link) s .link) (u .opened) (in-range (h .link) (u .opened) (u .formed)) order-after;
+        formed = not-malformed (put (h .link) s .link) (u .opened) formed-after;
         fits = u .fits;
       })
 

@@ -14,13 +14,13 @@ use Rattle.sending.specs.Stuffing.{unitBits}
 use Rattle.sending.proofs.Sent.{sent-good, sent-octets}
 use Rattle.board.specs.declared.Settings.{Settings}
 use Rattle.units.specs.Indications.{lineIndications}
-use Rattle.units.specs.Fit.{Fits}
+use Rattle.units.specs.InnerFit.{Fits}
 use Rattle.reception.specs.Line.{Board, boardAfter, lineRecords}
-use Rattle.indications.specs.Writing.{holding, indicationsDone}
+use Rattle.indications.specs.InnerWriting.{holding, indicationsDone}
 use Rattle.reception.proofs.Octets.{ready-kept}
 use Rattle.reception.proofs.Cutting.{board-cut, records-cut, records-size}
-use Rattle.input.specs.Progress.{progressOf}
-use Rattle.input.proofs.Receiving.{Receivable, limits, ready}
+use Rattle.input.specs.InnerProgress.{progressOf}
+use Rattle.input.proofs.Receiving.{Receivable, ready}
 use Rattle.link.specs.Held.{Held}
 use Rattle.readback.specs.Feeding.{board, Feed, heldAfter, recordsFed, octetsFed, Answered, none, more}
 use Rattle.readback.specs.Reading.{ReadBackFed}
@@ -39,8 +39,8 @@ module _ (h : Held) (octets records : List ℕ) (r : Receivable (h .link) octets
   unfolding boardAfter indicationsDone
   fits-after =
       ready-kept S (holding (progressOf (h .link)) (h .pool) (h .descriptors) records) (lineIndications (S .m) (board h .receiver) line)
-      (limits (h .link) octets (h .pool) (h .descriptors) records r)
-      (line-allowed (S .m) line (board h .receiver) (r .order .settings .m .1) (few-gathered h octets records r))
+      (r .formed .settings)
+      (line-allowed (S .m) line (board h .receiver) (r .formed .settings .m .1) (few-gathered h octets records r))
       (ready (h .link) octets (h .pool) (h .descriptors) records r) .fits
 
 -- some octet was fed, so the first call was one
@@ -60,7 +60,7 @@ module _ (h : Held) (fs : List Feed) (early : List ℕ) (last : ℕ) (a : Answer
   slot-below = let at = start h fs early last a octets in fits-after h (at .octets) (at .records) (at .can) early .next
 
   pub longest : h .link .settings .m ≤ 278
-  longest = start h fs early last a octets .can .order .settings .m .1
+  longest = start h fs early last a octets .can .formed .settings .m .1
 
 pub unit-length : (content : List ℕ) → length (unitOctets content) ≡ length content + 2
 unfolding checkOctets
@@ -99,13 +99,13 @@ read-back-fed h fs early last before behind content a octets line few opens off 
     others = flag-unclosed (s .m) behind few
 
     good : verdictOf basic (unitBits content) ≡ Good
-    good = sent-good content least
+    good = sent-good basic content least
 
     is : wholeOctets (unitBits content) ≡ unitOctets content
     is = sent-octets content are
 
     short : length (unitOctets content) ≤ 280
-    short = omega (arith, unit-length content, at .can .order .settings .m)
+    short = omega (arith, unit-length content, at .can .formed .settings .m)
 
     fits : Fits s (b .unitMemory .units) (b .unitMemory .pool) (b .unitMemory .descriptors)
     fits = fits-after h (at .octets) (at .records) (at .can) early

@@ -15,27 +15,28 @@ use Rattle.memory.proofs.Slots.{empty-length, filled-front}
 use Rattle.board.specs.declared.Settings.{Settings}
 use Rattle.board.specs.Link.{clearArea}
 use Rattle.board.specs.Malformed.{noOnes, zeroPast}
-use Rattle.board.proofs.Ranges.{InOrder, Ranges, ranges}
+use Rattle.board.proofs.Ranges.{ranges, not-malformed}
+use Rattle.board.specs.InnerRanges.{WellFormed, SettingsInRange}
 use Rattle.units.specs.Indications.{lineIndications}
 use Rattle.reception.specs.Line.{Board, boardAfter, lineHappenings, lineRecords}
-use Rattle.indications.specs.Writing.{holding, indicationsDone}
-use Rattle.reception.specs.Writing.{StateInRange}
+use Rattle.indications.specs.InnerWriting.{holding, indicationsDone}
+use Rattle.reception.specs.InnerWriting.{StateInRange}
 use Rattle.reception.proofs.Octets.{ready-kept}
 use Rattle.link.specs.Refusals.{first, fitsMemory, readNumber}
 use Rattle.input.specs.Refusals.{receiveNumber}
 use Rattle.link.specs.Calls.{Outcome, openedLink, readPart}
-use Rattle.input.specs.Progress.{progressOf}
+use Rattle.input.specs.InnerProgress.{progressOf}
 use Rattle.input.specs.Receive.{ReceiveOutcome, linkOf, received, receiveAnswer}
 use Rattle.link.proofs.Answers.{done, openable}
 use Rattle.link.proofs.Kept.{open-number, opened}
-use Rattle.input.proofs.Receiving.{Receivable, receivable, limits, ready}
+use Rattle.input.proofs.Receiving.{Receivable, receivable, ready}
 use Rattle.link.specs.Held.{Held}
-use Rattle.readback.specs.Feeding.{board, Feed, answer, fed, heldAfter}
-use Rattle.readback.specs.Feeding.{none as no-calls, more as one-call}
+use Rattle.readback.specs.Feeding.{board, Feed, answer, fed, heldAfter, none as no-calls, more as one-call}
 use Rattle.readback.specs.Using.{InUse, none, more, OpenInUse, StaysInUse, AnyCutting, StandsRead}
 use Rattle.readback.proofs.Gathered.{Sound, line-held, line-sound, line-allowed}
 use Rattle.readback.proofs.Feeding.{few-gathered, fed-as-one}
-use Rattle.readback.proofs.Formed.{count-out, orderly, in-range, packed-past, left-most}
+use Rattle.board.proofs.Past.{packed-past}
+use Rattle.readback.proofs.Counter.{left-most}
 
 -- the memory of k slots
 pub lent : (k : ℕ) (pool descriptors : List ℕ) → length pool ≡ 280 * k → length descriptors ≡ 2 * k → fitsMemory basic k pool descriptors ≡ true
@@ -51,8 +52,8 @@ no-wait : zeroPast 0 (0 ∷ []) ≡ true
 unfolding zeroPast noOnes lineBits bitsOf
 no-wait = refl
 
-opened-order : (s : Settings) → Ranges s → InOrder (openedLink s)
-opened-order s r =
+opened-formed : (s : Settings) → SettingsInRange s → WellFormed (openedLink s)
+opened-formed s r =
     record {
       area = clear-past;
       settings = r;
@@ -60,8 +61,7 @@ opened-order s r =
       bits = omega arith;
       idle = λ _. refl;
       counter = (r .n .0, omega arith);
-      number = omega (arith, r .d .0);
-      count = refl;
+      monitor = record { number = omega (arith, r .d .0); count = omega arith };
       next = omega (arith, r .k .0);
       waiting = omega arith;
       unflagged = λ _. refl;
@@ -74,7 +74,7 @@ open-in-use l s pool descriptors e =
     subst (λ (o : Outcome). InUse (record { link = o .link; pool = o .pool; descriptors = o .descriptors })) (sym (opened l s pool descriptors e))
     (record {
       opened = refl;
-      formed = orderly (openedLink s) refl (ok .range) (opened-order s (ranges s (ok .range)));
+      formed = not-malformed (openedLink s) refl (opened-formed s (ranges s (ok .range)));
       fits = lent (s .k) pool (emptyDescriptors (s .k)) (ok .octets) (empty-length (s .k));
     })
 
@@ -110,8 +110,8 @@ module _ (h : Held) (f : Feed) (u : InUse h) (few : length (f .octets) ≤ 1024)
   still-ready =
       let k =
       ready-kept S (holding (progressOf (h .link)) (h .pool) (h .descriptors) (f .records)) (lineIndications (S .m) (board h .receiver) (f .octets))
-      (limits (h .link) (f .octets) (h .pool) (h .descriptors) (f .records) can)
-      (line-allowed (S .m) (f .octets) (board h .receiver) (can .order .settings .m .1) few-bits)
+      (can .formed .settings)
+      (line-allowed (S .m) (f .octets) (board h .receiver) (can .formed .settings .m .1) few-bits)
       (ready (h .link) (f .octets) (h .pool) (h .descriptors) (f .records) can) in
       record { monitor = k .monitor; fits = k .fits }
 
@@ -124,28 +124,27 @@ module _ (h : Held) (f : Feed) (u : InUse h) (few : length (f .octets) ≤ 1024)
   unfolding boardAfter
   sound-after =
       line-sound (S .m) (f .octets) (board h .receiver)
-      (record { run = can .order .run; idle = λ e. ap (λ (n : ℕ). take n (lineBits (h .link .line .area))) (can .order .idle e) })
+      (record { run = can .formed .run; idle = λ e. ap (λ (n : ℕ). take n (lineBits (h .link .line .area))) (can .formed .idle e) })
 
   -- and N's counter
   left-after : then .unitMemory .units .counting .left ≤ S .n
   unfolding boardAfter
-  left-after = left-most S (lineIndications (S .m) (board h .receiver) (f .octets)) (board h .unitMemory) (can .order .counter .1)
+  left-after = left-most S (lineIndications (S .m) (board h .receiver) (f .octets)) (board h .unitMemory) (can .formed .counter .1)
 
-  order-after : InOrder (linkOf (h .link) then)
-  order-after =
+  formed-after : WellFormed (linkOf (h .link) then)
+  formed-after =
       record {
         area = packed-past 279 (then .receiver .gathered);
-        settings = can .order .settings;
+        settings = can .formed .settings;
         run = sound-after .run;
         bits = bits-after;
         idle = λ e. ap length (sound-after .idle e);
         counter = (still-ready .fits .counter, left-after);
-        number = still-ready .monitor .number;
-        count = count-out (then .supervision .monitor .mode) S (then .supervision .monitor .count) (still-ready .monitor .count);
+        monitor = still-ready .monitor;
         next = still-ready .fits .next;
-        waiting = can .order .waiting;
-        unflagged = can .order .unflagged;
-        wait = can .order .wait;
+        waiting = can .formed .waiting;
+        unflagged = can .formed .unflagged;
+        wait = can .formed .wait;
       }
 
   pub still-used : InUse (fed h f)
@@ -153,7 +152,7 @@ module _ (h : Held) (f : Feed) (u : InUse h) (few : length (f .octets) ≤ 1024)
       subst (λ (o : ReceiveOutcome). InUse (record { link = o .link; pool = o .pool; descriptors = o .descriptors })) (sym is-received)
       (record {
         opened = u .opened;
-        formed = orderly (linkOf (h .link) then) (u .opened) (in-range (h .link) (u .opened) (u .formed)) order-after;
+        formed = not-malformed (linkOf (h .link) then) (u .opened) formed-after;
         fits = lent (S .k) (then .unitMemory .pool) (then .unitMemory .descriptors) (still-ready .fits .octets) (still-ready .fits .words);
       })
 

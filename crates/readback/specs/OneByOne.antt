@@ -4,6 +4,7 @@ use mathlib.Core.Path.{_≡_}
 use mathlib.Core.Bool.{false}
 use mathlib.Core.List.{List, [], _∷_}
 use lib.ListN.{replicate}
+use Rattle.board.specs.Limits.{recordRoom}
 use Rattle.board.specs.declared.Settings.{Settings}
 use Rattle.board.specs.declared.Link.{Link}
 use Rattle.link.specs.Calls.{openAnswer}
@@ -19,7 +20,7 @@ slotsOf (suc k) = k ∷ slotsOf k
 
 unfoldable pub oneByOne : ℕ → List ℕ → List Round
 oneByOne k [] = []
-oneByOne k (x ∷ xs) = record { feed = record { octets = x ∷ []; records = replicate 48 0 }; back = slotsOf k } ∷ oneByOne k xs
+oneByOne k (x ∷ xs) = record { feed = record { octets = x ∷ []; records = replicate recordRoom 0 }; back = slotsOf k } ∷ oneByOne k xs
 
 -- A fresh booking with its filter off that allows the lengths, whatever its number of slots, so hands over exactly the units whose closing flag
 -- is out, in order, and nothing else.

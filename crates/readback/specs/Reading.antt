@@ -8,7 +8,7 @@ use Rattle.memory.specs.declared.Status.the-variants as statuses
 use Rattle.board.specs.Events.{eventBit}
 use Rattle.records.specs.declared.RecordKind.the-variants as kinds
 use Rattle.board.specs.declared.events.Event.the-variants as events
-use Rattle.bits.specs.Format.{basic}
+use Rattle.bits.specs.Format.{basic, leastContent}
 use Rattle.bits.specs.Octets.{lineBits, Octets}
 use Rattle.framing.specs.Delimitation.{flagged, receiverAfter}
 use Rattle.sending.specs.Stuffing.{unitLine}
@@ -52,7 +52,7 @@ ReadBackFed =
     → Answered h fs → octetsFed fs ≡ early ++ (last ∷ [])
     → lineBits (early ++ (last ∷ [])) ≡ before ++ (unitLine content ++ behind) → length behind ≤ 7
     → receiverAfter (h .link .settings .m) (board h .receiver) before ≡ flagged
-    → h .link .settings .filter ≡ false → 3 ≤ length content → length content + 2 ≤ h .link .settings .m → Octets content
+    → h .link .settings .filter ≡ false → leastContent basic ≤ length content → length content + 2 ≤ h .link .settings .m → Octets content
     → let then = boardAfter (h .link .settings) (board h) early .unitMemory in
     isFree then ≡ true
     → Stands (heldAfter h fs) (then .units .slots .next) (unitOctets content) × Reported (recordsFed h fs) (unitOctets content)

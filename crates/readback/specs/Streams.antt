@@ -4,6 +4,7 @@ use mathlib.Core.Path.{_≡_}
 use mathlib.Core.Bool.{Bool, false}
 use mathlib.Core.List.{List, [], _∷_, _++_}
 use lib.ListN.{length}
+use Rattle.bits.specs.Format.{basic, leastContent}
 use Rattle.bits.specs.Octets.{lineBits, Octets}
 use Rattle.sending.specs.Stream.{streamLine}
 use Rattle.memory.specs.Lent.{emptyDescriptors}
@@ -16,7 +17,7 @@ use Rattle.readback.specs.SlotRing.{SlotRing, ringAfter, ringRecords}
 
 -- content that can be sent, and that a receiver with longest unit M allows with its check octets
 pub record Allowed (M : ℕ) (content : List ℕ) : Type 0 where
-  pub least : 3 ≤ length content
+  pub least : leastContent basic ≤ length content
   pub most : length content + 2 ≤ M
   pub octets : Octets content
 

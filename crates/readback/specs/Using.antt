@@ -4,8 +4,8 @@ use mathlib.Core.Path.{_≡_}
 use mathlib.Core.Bool.{true, false}
 use mathlib.Core.List.{List, [], _∷_}
 use lib.ListN.{length}
-use Rattle.bits.specs.Format.{basic}
-use Rattle.board.specs.Limits.{recordRoom}
+use Rattle.bits.specs.Format.{basic, mostLongest, leastContent, mostContent}
+use Rattle.board.specs.Limits.{recordRoom, mostLine}
 use Rattle.board.specs.declared.Settings.{Settings}
 use Rattle.board.specs.declared.Link.{Link}
 use Rattle.board.specs.Malformed.{malformed}
@@ -26,7 +26,7 @@ pub record InUse (h : Held) : Type 0 where
 -- at most 1,024 line octets, and 48 octets of record area for each
 pub data AllSized : List Feed → Type 0 where
   none : AllSized []
-  more : {f : Feed} {fs : List Feed} → length (f .octets) ≤ 1024 → recordRoom * length (f .octets) ≤ length (f .records) → AllSized fs → AllSized (f ∷ fs)
+  more : {f : Feed} {fs : List Feed} → length (f .octets) ≤ mostLine → recordRoom * length (f .octets) ≤ length (f .records) → AllSized fs → AllSized (f ∷ fs)
 
 -- A booking just opened is in use.
 abbrev pub OpenInUse : Type 0
@@ -46,13 +46,13 @@ AnyCutting =
 -- What stands in a slot of a link in use is what read gives.
 abbrev pub StandsRead : Type 0
 StandsRead =
-    (h : Held) (slot : ℕ) (unit : List ℕ) → InUse h → slot < h .link .settings .k → length unit ≤ 278 → Stands h slot unit
+    (h : Held) (slot : ℕ) (unit : List ℕ) → InUse h → slot < h .link .settings .k → length unit ≤ mostLongest basic → Stands h slot unit
     → (readNumber (h .link) (h .pool) (h .descriptors) slot ≡ 0) × (readPart (h .link) (h .pool) (h .descriptors) slot ≡ unit)
 
 -- content of 3 to 276 octets, and an output area of 336 octets
 abbrev pub Fitting : Sending → Type 0
-Fitting (send content output) = (3 ≤ length content) × (length content ≤ 276) × (336 ≤ length output)
-Fitting (fill output) = 336 ≤ length output
+Fitting (send content output) = (leastContent basic ≤ length content) × (length content ≤ mostContent basic) × (basic .output ≤ length output)
+Fitting (fill output) = basic .output ≤ length output
 
 pub data AllFitting : List Sending → Type 0 where
   none : AllFitting []

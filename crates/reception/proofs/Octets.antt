@@ -7,6 +7,7 @@ use native.Mathlib.Nat.{add-zero}
 use native.Mathlib.Omega.{arith}
 use lib.ListN.{length, take, length-append}
 use lib.Seq.{sets, length-sets, length-take-le}
+use Rattle.board.specs.InnerRanges.{SettingsInRange, MonitorInRange}
 use Rattle.board.specs.Limits.{recordOctets, recordRoom, monitorLimits}
 use Rattle.bits.specs.Octets.{bitsOf, lineBits, packed}
 use Rattle.bits.proofs.Digits.{length-bitsOf}
@@ -16,27 +17,28 @@ use Rattle.framing.specs.declared.Line.{Line}
 use Rattle.framing.specs.declared.Found.{Found}
 use Rattle.framing.specs.declared.Found.the-variants.{Nothing, Closed, Abort, Long}
 use Rattle.framing.specs.declared.Fed.{Fed}
-use Rattle.framing.specs.Delimitation.{Receiver, Finding, closed, abort, long, flagged, receiverAfter, findings, Reading, reading}
-use Rattle.framing.specs.Representation.{decode, wellFormed, Holds, shows, unitIn, standing, FedTo}
+use Rattle.framing.specs.Delimitation.{Receiver, Finding, closed, abort, long, flagged, receiverAfter, findings}
+use Rattle.framing.specs.InnerReading.{Reading, reading, wellFormed, Holds, shows, unitIn, standing, FedTo}
+use Rattle.framing.specs.Representation.{decode}
 use Rattle.framing.proofs.Bound.{two-findings}
 use Rattle.framing.proofs.Readings.{reading-after, reading-findings}
 use Rattle.framing.proofs.Stops.{reading-single, reading-flag, reading-shorter}
 use Rattle.records.specs.declared.Happening.{Happening}
 use Rattle.board.specs.declared.Supervision.{Supervision}
 use Rattle.records.specs.Record.{supervised, supervisionAfter, recordsOf}
-use Rattle.records.specs.Promises.{FirstFive, none, more, LimitsInRange, MonitorInRange}
+use Rattle.records.specs.Promises.{FirstFive, none, more}
 use Rattle.records.proofs.Range.{stays-in-range}
 use Rattle.monitor.specs.declared.Limits.{Limits}
 use Rattle.board.specs.declared.Settings.{Settings}
 use Rattle.units.specs.Indications.{Indication, found, octetEnd, octetReceiver, octetIndications, lineReceiver, lineIndications}
 use Rattle.units.specs.Units.{UnitMemory, nextUnitMemory, happens, unitMemoryAfter, happenings}
-use Rattle.units.specs.Fit.{Fits}
+use Rattle.units.specs.InnerFit.{Fits}
 use Rattle.units.specs.Promises.{AtMostLongest}
 use Rattle.units.proofs.UnitStates.{fit-kept, found-one, one-at-most, first-fives, happenings-append}
 use Rattle.indications.specs.declared.Progress.{Progress}
 use Rattle.reception.specs.declared.Passed.{Passed}
-use Rattle.indications.specs.Writing.{Written, holding, indicationsDone, Able, StandsIn, Shown, areaAfter}
-use Rattle.reception.specs.Writing.{StateInRange, LineTaken}
+use Rattle.indications.specs.InnerWriting.{CallState, holding, indicationsDone, Able, StandsIn, Shown, areaAfter}
+use Rattle.reception.specs.InnerWriting.{StateInRange, LineTaken}
 use Rattle.indications.proofs.Recording.{indications-none, indications-append}
 
 -- ---- what indications keep
@@ -60,10 +62,10 @@ unfolding unitMemoryAfter
 unit-memory-fits s [] o none-left f = f
 unit-memory-fits s (m ∷ ms) o (one-more a r) f = unit-memory-fits s ms (nextUnitMemory s o m) r (fit-kept s o m a f)
 
-supervision-in-range : (l : Limits) (hs : List Happening) (w : Supervision) → LimitsInRange l → MonitorInRange l (w .monitor) → MonitorInRange l (supervisionAfter l w hs .monitor)
+supervision-in-range : (s : Settings) (hs : List Happening) (w : Supervision) → SettingsInRange s → MonitorInRange s (w .monitor) → MonitorInRange s (supervisionAfter (monitorLimits s) w hs .monitor)
 unfolding supervisionAfter
-supervision-in-range l [] w r i = i
-supervision-in-range l (h ∷ hs) w r i = supervision-in-range l hs (supervised l w h) r (stays-in-range l w h r i)
+supervision-in-range s [] w r i = i
+supervision-in-range s (h ∷ hs) w r i = supervision-in-range s hs (supervised (monitorLimits s) w h) r (stays-in-range s w h r i)
 
 found-count : (s : Settings) (fs : List Finding) (o : UnitMemory) → length (happenings s o (map found fs)) ≡ length fs
 unfolding happenings
@@ -73,29 +75,28 @@ found-count s (f ∷ fs) o =
     let r = found-count s fs (nextUnitMemory s o (found f)) in
     omega (arith, length-append (happens s o (found f)) (happenings s (nextUnitMemory s o (found f)) (map found fs)))
 
-pub ready-kept : (s : Settings) (w : Written) (ms : List Indication) → LimitsInRange (monitorLimits s) → AllAllowed ms → StateInRange s w → StateInRange s (indicationsDone s w ms)
+pub ready-kept : (s : Settings) (w : CallState) (ms : List Indication) → SettingsInRange s → AllAllowed ms → StateInRange s w → StateInRange s (indicationsDone s w ms)
 unfolding indicationsDone
 ready-kept s w ms l a r =
     record {
-      monitor = supervision-in-range (monitorLimits s) (happenings s (w .unitMemory) ms) (w .supervision) l (r .monitor);
+      monitor = supervision-in-range s (happenings s (w .unitMemory) ms) (w .supervision) l (r .monitor);
       fits = unit-memory-fits s ms (w .unitMemory) a (r .fits);
     }
 
-pub founds-count : (s : Settings) (w : Written) (fs : List Finding) → indicationsDone s w (map found fs) .count ≡ w .count + length fs
+pub founds-count : (s : Settings) (w : CallState) (fs : List Finding) → indicationsDone s w (map found fs) .count ≡ w .count + length fs
 unfolding indicationsDone
 founds-count s w fs = ap (λ (n : ℕ). w .count + n) (found-count s fs (w .unitMemory))
 
-pub indications-length : (s : Settings) (w : Written) (ms : List Indication) → length (indicationsDone s w ms .out) ≡ length (w .out)
+pub indications-length : (s : Settings) (w : CallState) (ms : List Indication) → length (indicationsDone s w ms .out) ≡ length (w .out)
 unfolding indicationsDone
 indications-length s w ms = length-sets (w .out) (recordOctets * w .count) (recordsOf (monitorLimits s) (w .supervision) (happenings s (w .unitMemory) ms))
 
 -- ---- between two findings of an octet
-pub record Between (s : Settings) (line : Line) (area₀ : List ℕ) (octet : ℕ) (w : Written) (area pool descriptors out : List ℕ) (cur : Line) (rest left : ℕ)
+pub record Between (s : Settings) (line : Line) (area₀ : List ℕ) (octet : ℕ) (w : CallState) (area pool descriptors out : List ℕ) (cur : Line) (rest left : ℕ)
     (q : Progress) : Type 0 where
   pub few : left ≤ 8
   pub held : wellFormed (s .m) cur area
-  pub longest : (7 ≤ s .m) × (s .m ≤ 278)
-  pub limits : LimitsInRange (monitorLimits s)
+  pub settings : SettingsInRange s
   pub ready : StateInRange s (holding q pool descriptors out)
   pub receiver : receiverAfter (s .m) (decode cur area) (bitsOf left rest) ≡ octetReceiver (s .m) (decode line area₀) octet
   pub still : indicationsDone s (holding q pool descriptors out) (map found (findings (s .m) (decode cur area) (bitsOf left rest)))
@@ -111,20 +112,19 @@ at-start s line area pool descriptors out octet p a h r =
     record {
       few = omega arith;
       held = h;
-      longest = a .longest;
-      limits = a .limits;
+      settings = a .settings;
       ready = record { monitor = a .monitor; fits = a .fits };
       receiver = refl;
       still = refl;
-      room = omega (arith, two-findings (s .m) (decode line area) octet (a .longest .0));
+      room = omega (arith, two-findings (s .m) (decode line area) octet (a .settings .m .0));
       same = refl;
     }
 
 -- the room and the rest of what one indication needs
-pub able : (s : Settings) (line : Line) (area₀ : List ℕ) (octet : ℕ) (w : Written) (area pool descriptors out : List ℕ) (cur : Line) (rest left : ℕ) (q : Progress)
+pub able : (s : Settings) (line : Line) (area₀ : List ℕ) (octet : ℕ) (w : CallState) (area pool descriptors out : List ℕ) (cur : Line) (rest left : ℕ) (q : Progress)
     → Between s line area₀ octet w area pool descriptors out cur rest left q → Able s q pool descriptors out
 able s line area₀ octet w area pool descriptors out cur rest left q b =
-    record { longest = b .longest; limits = b .limits; monitor = b .ready .monitor; fits = b .ready .fits; room = omega (arith, b .room) }
+    record { settings = b .settings; monitor = b .ready .monitor; fits = b .ready .fits; room = omega (arith, b .room) }
 
 -- ---- one turn
 map-append : (xs ys : List Finding) → map found (xs ++ ys) ≡ map found xs ++ map found ys
@@ -183,7 +183,7 @@ kept M (closed u ∷ fs) st l area m e g h =
 kept M (abort ∷ fs) st l area m e g h = record { is = e; held = h }
 kept M (long ∷ fs) st l area m e g h = record { is = e; held = h }
 
-module _ (s : Settings) (line : Line) (area₀ : List ℕ) (octet : ℕ) (w : Written) (area pool descriptors out : List ℕ) (cur : Line) (rest left : ℕ) (q : Progress)
+module _ (s : Settings) (line : Line) (area₀ : List ℕ) (octet : ℕ) (w : CallState) (area pool descriptors out : List ℕ) (cur : Line) (rest left : ℕ) (q : Progress)
     (b : Between s line area₀ octet w area pool descriptors out cur rest left q) (fed : Fed) (area₁ : List ℕ)
     (f : FedTo (s .m) (reading (s .m) (decode cur area) (bitsOf left rest)) fed area₁) where
   abbrev M : ℕ
@@ -192,7 +192,7 @@ module _ (s : Settings) (line : Line) (area₀ : List ℕ) (octet : ℕ) (w : Wr
   abbrev g : Reading
   g = reading M (decode cur area) (bitsOf left rest)
 
-  abbrev here : Written
+  abbrev here : CallState
   here = holding q pool descriptors out
 
   single : length (g .found) ≤ 1
@@ -216,7 +216,7 @@ module _ (s : Settings) (line : Line) (area₀ : List ℕ) (octet : ℕ) (w : Wr
     after-kept : Kept M (g .state) (fed .step .line) area′
     after-kept =
         subst (Kept M (g .state) (fed .step .line)) (sym (ea ∙ ap (λ (x : Found). areaAfter x area₁) (f .step .found)))
-        (kept M (g .found) (g .state) (fed .step .line) area₁ (b .longest .1) (f .step .state)
+        (kept M (g .found) (g .state) (fed .step .line) area₁ (b .settings .m .1) (f .step .state)
         (λ u gs x. reading-flag M (bitsOf left rest) (decode cur area) u gs x) holds-shown)
 
     to-come : findings M (decode (fed .step .line) area′) (bitsOf (fed .left) (fed .octet)) ≡ findings M (g .state) (g .rest)
@@ -230,26 +230,25 @@ module _ (s : Settings) (line : Line) (area₀ : List ℕ) (octet : ℕ) (w : Wr
 
     all-done : indicationsDone s (holding q′ pool′ descriptors′ out′) later ≡ indicationsDone s here (map found (findings M (decode cur area) (bitsOf left rest)))
     all-done =
-        ap (λ (x : Written). indicationsDone s x later) e
+        ap (λ (x : CallState). indicationsDone s x later) e
         ∙ sym (indications-append s here (map found (g .found)) later (happenings-five s (map found (g .found)) (here .unitMemory)))
         ∙ ap (indicationsDone s here) (sym (map-append (g .found) (findings M (decode (fed .step .line) area′) (bitsOf (fed .left) (fed .octet)))) ∙ ap (map found) all-findings)
 
     same-out : length out′ ≡ length out
-    same-out = ap (λ (x : Written). length (x .out)) e ∙ indications-length s here (map found (g .found))
+    same-out = ap (λ (x : CallState). length (x .out)) e ∙ indications-length s here (map found (g .found))
 
     counted : q′ .count ≡ q .count + length (g .found)
-    counted = ap (λ (x : Written). x .count) e ∙ founds-count s here (g .found)
+    counted = ap (λ (x : CallState). x .count) e ∙ founds-count s here (g .found)
 
     pub turn : Between s line area₀ octet w area′ pool′ descriptors′ out′ (fed .step .line) (fed .octet) (fed .left) q′
     turn =
         record {
           few = f .few;
           held = after-kept .held;
-          longest = b .longest;
-          limits = b .limits;
+          settings = b .settings;
           ready =
               subst (StateInRange s) (sym e)
-              (ready-kept s here (map found (g .found)) (b .limits) (all-allowed M (fed .step .line) (g .found) area₁ (b .longest .1) single holds-shown) (b .ready));
+              (ready-kept s here (map found (g .found)) (b .settings) (all-allowed M (fed .step .line) (g .found) area₁ (b .settings .m .1) single holds-shown) (b .ready));
           receiver =
               ap₂ (λ (x : Receiver) (y : List Bool). receiverAfter M x y) (after-kept .is) (f .rest)
               ∙ reading-after M (bitsOf left rest) (decode cur area) ∙ b .receiver;
@@ -279,11 +278,11 @@ three s M st octet o h =
     ap length (append-nil (happens s (unitMemoryAfter s o (map found fs)) octetEnd)) in
     omega (arith, found-count s fs o, one-at-most s (unitMemoryAfter s o (map found fs)) octetEnd, two-findings M st octet h)
 
-three-more : (s : Settings) (M : ℕ) (st : Receiver) (octet : ℕ) (w : Written) → 7 ≤ M → indicationsDone s w (octetIndications M st octet) .count ≤ w .count + 3
+three-more : (s : Settings) (M : ℕ) (st : Receiver) (octet : ℕ) (w : CallState) → 7 ≤ M → indicationsDone s w (octetIndications M st octet) .count ≤ w .count + 3
 unfolding indicationsDone
 three-more s M st octet w h = omega (arith, three s M st octet (w .unitMemory) h)
 
-module _ (s : Settings) (line : Line) (area₀ : List ℕ) (octet : ℕ) (w : Written) (area pool descriptors out : List ℕ) (cur : Line) (rest left : ℕ) (q : Progress)
+module _ (s : Settings) (line : Line) (area₀ : List ℕ) (octet : ℕ) (w : CallState) (area pool descriptors out : List ℕ) (cur : Line) (rest left : ℕ) (q : Progress)
     (b : Between s line area₀ octet w area pool descriptors out cur rest left q) (z : left ≡ 0) where
   no-bits : bitsOf left rest ≡ []
   unfolding bitsOf
@@ -301,15 +300,15 @@ module _ (s : Settings) (line : Line) (area₀ : List ℕ) (octet : ℕ) (w : Wr
       record {
         receiver = ap (receiverAfter (s .m) (decode cur area)) (sym no-bits) ∙ b .receiver;
         held = b .held;
-        written = whole ∙ ap (indicationsDone s w) (sym (single-octet (s .m) (decode line area₀) octet));
+        done = whole ∙ ap (indicationsDone s w) (sym (single-octet (s .m) (decode line area₀) octet));
         ready =
             subst (StateInRange s) (sym e)
-            (ready-kept s (holding q pool descriptors out) (octetEnd ∷ []) (b .limits) (one-more {m = octetEnd} (omega arith) none-left) (b .ready));
-        few = subst (λ (x : Written). x .count ≤ w .count + 3) (sym whole) (three-more s (s .m) (decode line area₀) octet w (b .longest .0));
+            (ready-kept s (holding q pool descriptors out) (octetEnd ∷ []) (b .settings) (one-more {m = octetEnd} (omega arith) none-left) (b .ready));
+        few = subst (λ (x : CallState). x .count ≤ w .count + 3) (sym whole) (three-more s (s .m) (decode line area₀) octet w (b .settings .m .0));
       }
     where
       whole : holding r pool descriptors out′ ≡ indicationsDone s w (octetIndications (s .m) (decode line area₀) octet)
       whole =
-          e ∙ ap (λ (x : Written). indicationsDone s x (octetEnd ∷ [])) done-bits
+          e ∙ ap (λ (x : CallState). indicationsDone s x (octetEnd ∷ [])) done-bits
           ∙ sym (indications-append s w (map found (findings (s .m) (decode line area₀) (bitsOf 8 octet))) (octetEnd ∷ [])
           (happenings-five s (map found (findings (s .m) (decode line area₀) (bitsOf 8 octet))) (w .unitMemory)))

@@ -1,4 +1,4 @@
 -- The receiver's path from line octets to records.
 pub mod Line
-pub mod Writing
+pub mod InnerWriting
 pub mod Promises

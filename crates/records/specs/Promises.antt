@@ -5,10 +5,10 @@ use mathlib.Core.Bool.{Bool, false}
 use mathlib.Core.List.{List, [], _∷_, _++_}
 use lib.ListN.{length, getD, take, drop}
 use lib.Seq.{sets}
-use Rattle.board.specs.Limits.{recordOctets}
+use Rattle.board.specs.InnerRanges.{SettingsInRange, MonitorInRange}
+use Rattle.board.specs.declared.Settings.{Settings}
+use Rattle.board.specs.Limits.{recordOctets, monitorLimits}
 use Rattle.bits.specs.Octets.{worth}
-use Rattle.monitor.specs.declared.Mode.{Mode}
-use Rattle.monitor.specs.declared.Mode.the-variants.{Off, Failure, Alignment, Idle}
 use Rattle.monitor.specs.declared.Monitor.{Monitor}
 use Rattle.monitor.specs.declared.Limits.{Limits}
 use Rattle.records.specs.declared.Happening.{Happening}
@@ -62,33 +62,12 @@ RecordByRecord =
     → sets (sets out (recordOctets * n) (recorded l w h)) (recordOctets * (n + 1)) (recordsOf l (supervised l w h) hs) ≡ sets out (recordOctets * n) (recordsOf l w (h ∷ hs))
 
 -- ---- Numbers in range
--- T, D and A, each 1 to 1,024
-pub record LimitsInRange (l : Limits) : Type 0 where
-  pub t-low : 1 ≤ l .t
-  pub t-high : l .t ≤ 1024
-  pub d-low : 1 ≤ l .d
-  pub d-high : l .d ≤ 1024
-  pub a-low : 1 ≤ l .a
-  pub a-high : l .a ≤ 1024
-
--- "monitor count T or more in failure mode, A or more in alignment mode, above 1,024 when idle or off" is out of range
-abbrev pub countInRange : Limits → Mode → ℕ → Type 0
-countInRange l Failure c = c < l .t
-countInRange l Alignment c = c < l .a
-countInRange l Idle c = c ≤ 1024
-countInRange l Off c = c ≤ 1024
-
--- "event number D or more" is out of range
-pub record MonitorInRange (l : Limits) (m : Monitor) : Type 0 where
-  pub number : m .number < l .d
-  pub count : countInRange l (m .mode) (m .count)
-
 -- A happening leaves a monitor in range in range,
 abbrev pub StaysInRange : Type 0
 StaysInRange =
-    (l : Limits) (w : Supervision) (h : Happening) → LimitsInRange l → MonitorInRange l (w .monitor)
-    → MonitorInRange l (supervised l w h .monitor)
+    (s : Settings) (w : Supervision) (h : Happening) → SettingsInRange s → MonitorInRange s (w .monitor)
+    → MonitorInRange s (supervised (monitorLimits s) w h .monitor)
 
 -- and a monitor in range is one that can take a happening.
 abbrev pub RangeTakes : Type 0
-RangeTakes = (l : Limits) (m : Monitor) → LimitsInRange l → MonitorInRange l m → (m .count < 65535) × (m .number < 65535)
+RangeTakes = (s : Settings) (m : Monitor) → SettingsInRange s → MonitorInRange s m → (m .count < 65535) × (m .number < 65535)

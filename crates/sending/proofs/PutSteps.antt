@@ -9,7 +9,8 @@ use lib.Seq.{sets, length-sets}
 use borrow.Author.Tests.{eq-eqb, ne-eqb}
 use Rattle.sending.specs.declared.Tx.{Tx}
 use Rattle.sending.specs.Stuffing.{onesAfter, zeroAfter, stuffed, onesOver}
-use Rattle.sending.specs.Packing.{octetsOut, afterBits, areaPut, Puts, TxInRange, Room}
+use Rattle.sending.specs.Packing.{octetsOut}
+use Rattle.sending.specs.InnerPutting.{afterBits, areaPut, Puts, TxInRange, Room}
 use Rattle.sending.proofs.Stuffs.{stuffed-append, ones-append, over-le}
 use Rattle.sending.proofs.Puttings.{ready-after, place-after, puts-append, puts-none, written-append, written-none}
 

@@ -12,7 +12,8 @@ use Rattle.bits.proofs.Digits.{length-bitsOf, all-back, value-back, octetOf-lt,
 use Rattle.bits.proofs.Whole.{length-whole, length-after, whole-few, after-few, whole-eight, after-eight, whole-append, after-append, together}
 use Rattle.bits.proofs.Writing.{sets-append}
 use Rattle.sending.specs.declared.Tx.{Tx}
-use Rattle.sending.specs.Packing.{waiting, octetsOut, stillWaiting, afterBits, areaPut, Puts, TxInRange, Room}
+use Rattle.sending.specs.Packing.{waiting, octetsOut, stillWaiting}
+use Rattle.sending.specs.InnerPutting.{afterBits, areaPut, Puts, TxInRange, Room}
 use Rattle.sending.specs.Promises.{NothingLost}
 
 pub length-waiting : (t : Tx) → length (waiting t) ≡ t .count

@@ -8,7 +8,7 @@ use borrow.Author.Tests.{le-ltb, eq-eqb}
 use lib.ListN.{length}
 use Rattle.bits.specs.Octets.{lineBits, wholeOctets, Octets}
 use Rattle.bits.specs.Machine.{run-append, outs-append}
-use Rattle.bits.specs.Format.{basic}
+use Rattle.bits.specs.Format.{fillInOctets}
 use Rattle.bits.proofs.Lines.{octets-append}
 use Rattle.bits.proofs.Whole.{whole-line}
 use Rattle.fcs.specs.Check.{checkBits, checkOf, goodResidue, checkOctets}
@@ -34,12 +34,12 @@ unit-residue : (content : List ℕ) → checkBits 0xffff (unitBits content) ≡ 
 unfolding unitBits checkOf
 unit-residue content = good-residue content
 
--- it is good, from three octets of content on
+-- it is good, from a header of content on
 pub sent-good : SentGood
 unfolding verdictOf
-sent-good content h =
+sent-good F content h =
     let l : length (unitBits content) % 8 ≡ 0 = omega (arith, unit-bits content) in
-    rw (le-ltb (length (unitBits content)) 40 (omega (arith, unit-bits content)), eq-eqb (length (unitBits content) % 8) 0 l, eq-eqb (checkBits 0xffff (unitBits content)) goodResidue (unit-residue content))
+    rw (le-ltb (length (unitBits content)) (fillInOctets F * 8) (omega (arith, unit-bits content)), eq-eqb (length (unitBits content) % 8) 0 l, eq-eqb (checkBits 0xffff (unitBits content)) goodResidue (unit-residue content))
 
 -- and its octets are the content and the check octets
 pub sent-octets : SentOctets

@@ -10,7 +10,8 @@ use Rattle.bits.proofs.Lines.{line-append}
 use Rattle.fcs.specs.Check.{checkOctets}
 use Rattle.sending.specs.declared.Tx.{Tx}
 use Rattle.sending.specs.Stuffing.{stuffed, onesOver, flag, unitBits, unitLine}
-use Rattle.sending.specs.Packing.{octetsOut, stillWaiting, afterBits, Puts, TxInRange, Room}
+use Rattle.sending.specs.Packing.{octetsOut, stillWaiting}
+use Rattle.sending.specs.InnerPutting.{afterBits, Puts, TxInRange, Room}
 use Rattle.sending.proofs.Stuffs.{stuffed-append, over-le}
 use Rattle.sending.proofs.PutSteps.{Rest, begins, first-room, goes, ends, marked}
 

@@ -1,48 +1,17 @@
 -- "Whole octets go out and their number is returned; the rest of the area is unchanged; up to seven bits wait in the link."
-use Prim.Native.Nat.{ℕ, _+_, _*_, _^_, _≤_, _<_}
-use mathlib.Core.Path.{_≡_}
+use Prim.Native.Nat.{ℕ}
 use mathlib.Core.Bool.{Bool}
 use mathlib.Core.List.{List, _++_}
-use lib.ListN.{length}
-use lib.Seq.{sets}
-use Rattle.bits.specs.Octets.{bitsOf, octetOf, wholeOctets, bitsAfter}
+use Rattle.bits.specs.Octets.{bitsOf, wholeOctets, bitsAfter}
 use Rattle.sending.specs.declared.Tx.{Tx}
 
 -- the bits that wait, the first one lowest in the waiting octet
 abbrev pub waiting : Tx → List Bool
 waiting t = bitsOf (t .count) (t .wait)
 
--- bits are put behind those that wait: the octets that go out, and where the sender is then
+-- bits are put behind those that wait: the octets that go out, and the bits that wait then
 unfoldable pub octetsOut : Tx → List Bool → List ℕ
 octetsOut t bs = wholeOctets (waiting t ++ bs)
 
 unfoldable pub stillWaiting : Tx → List Bool → List Bool
 stillWaiting t bs = bitsAfter (waiting t ++ bs)
-
-abbrev pub afterBits : Tx → List Bool → ℕ → Tx
-afterBits t bs ones =
-    record {
-      at = t .at + length (octetsOut t bs);
-      count = length (stillWaiting t bs);
-      wait = octetOf (stillWaiting t bs);
-      ones = ones;
-    }
-
--- the output area with those octets in it
-abbrev pub areaPut : List ℕ → Tx → List Bool → List ℕ
-areaPut out t bs = sets out (t .at) (octetsOut t bs)
-
--- what a function that puts bits gives: where the sender is, with `ones` ones in a row, and the area
-pub record Puts (out : List ℕ) (t : Tx) (bs : List Bool) (ones : ℕ) (r : Tx) (out′ : List ℕ) : Type 0 where
-  pub tx : r ≡ afterBits t bs ones
-  pub area : out′ ≡ areaPut out t bs
-
--- at most seven bits wait, the waiting octet is zero past them, and at most four ones in a row stand before the next bit
-pub record TxInRange (t : Tx) : Type 0 where
-  pub few : t .count ≤ 7
-  pub low : t .wait < 2 ^ t .count
-  pub short : t .ones ≤ 4
-
--- the area has room for these bits
-abbrev pub Room : Tx → List Bool → List ℕ → Type 0
-Room t bs out = t .at * 8 + t .count + length bs ≤ length out * 8

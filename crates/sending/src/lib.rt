@@ -4,7 +4,7 @@ ghost use mathlib.Core.List.{List, [], _∷_};
 ghost use Prim.Native.Nat.{_^_, _≤_, _<_, _+_, _*_};
 ghost use Rattle.bits.specs.Octets.{bitsOf, lineBits, worth};
 ghost use Rattle.sending.specs.Stuffing.{stuffed, onesOver, flag, unitLine};
-ghost use Rattle.sending.specs.Packing.{Puts, TxInRange, Room};
+ghost use Rattle.sending.specs.InnerPutting.{Puts, TxInRange, Room};
 
 // Where the next octet goes in the output area; how many bits wait and the octet that holds them, first one lowest; and the
 // ones sent in a row.

@@ -19,7 +19,7 @@ use Rattle.sending.proofs.Puttings.{length-waiting, nothing-lost}
 use Rattle.sending.proofs.Stuffs.{few-octets}
 use Rattle.board.specs.declared.Link.{Link}
 use Rattle.board.specs.Promises.{Sized}
-use Rattle.board.proofs.Ranges.{InOrder}
+use Rattle.board.specs.InnerRanges.{WellFormed}
 use Rattle.link.proofs.Answers.{done}
 use Rattle.output.specs.Refusals.{sendNumber, fillNumber}
 use Rattle.output.specs.Output.{OutputOutcome, sender, firstFlag, unitOut, fillContent, fillOut, fillEvent, putOut, notSent, sendAnswer, fillAnswer}
@@ -68,7 +68,7 @@ abbrev pub Few : Link → Sending → Type 0
 Few l (send content output) = Unit {0}
 Few l (fill output) = length (l .transmitter .last) ≡ 2
 
-few-unit : (l : Link) (content : List ℕ) → InOrder l → length content ≤ 276 → length (octetsOut (sender (l .transmitter)) (unitOut (l .transmitter) content)) ≤ 335
+few-unit : (l : Link) (content : List ℕ) → WellFormed l → length content ≤ 276 → length (octetsOut (sender (l .transmitter)) (unitOut (l .transmitter) content)) ≤ 335
 unfolding octetsOut unitOut
 few-unit l content o h =
     let t = sender (l .transmitter) in
@@ -77,7 +77,7 @@ few-unit l content o h =
     (few-octets (waiting t ++ f) content
     (omega (arith, length-append (waiting t) f, length-waiting t, first-short (l .transmitter .flagged) (l .transmitter .count) (o .waiting) (o .unflagged))) h)
 
-few-flag : (l : Link) → InOrder l → length (octetsOut (sender (l .transmitter)) flag) ≤ 335
+few-flag : (l : Link) → WellFormed l → length (octetsOut (sender (l .transmitter)) flag) ≤ 335
 unfolding octetsOut
 few-flag l o =
     omega (
@@ -88,7 +88,7 @@ few-flag l o =
       o .waiting,
     )
 
-few-fill : (l : Link) → InOrder l → length (l .transmitter .last) ≡ 2 → length (octetsOut (sender (l .transmitter)) (fillOut (l .transmitter))) ≤ 335
+few-fill : (l : Link) → WellFormed l → length (l .transmitter .last) ≡ 2 → length (octetsOut (sender (l .transmitter)) (fillOut (l .transmitter))) ≤ 335
 unfolding fillOut
 few-fill l o h = go (l .transmitter .sent)
   where
@@ -101,8 +101,8 @@ pub record Room (l : Link) (s : Sending) : Type 0 where
   pub area : 336 ≤ length (areaOf s)
 
 room : (l : Link) (s : Sending) → Few l s → numberOf l s ≡ 0 → Room l s
-room l (send content output) h z = let ok = sendable l content output z in record { few = few-unit l content (ok .0 .order) (ok .2); area = ok .0 .room }
-room l (fill output) h z = let ok = fillable l output z in record { few = few-fill l (ok .order) h; area = ok .room }
+room l (send content output) h z = let ok = sendable l content output z in record { few = few-unit l content (ok .0 .formed) (ok .2); area = ok .0 .room }
+room l (fill output) h z = let ok = fillable l output z in record { few = few-fill l (ok .formed) h; area = ok .room }
 
 -- an accepted call
 pub record Put (l : Link) (s : Sending) : Type 0 where

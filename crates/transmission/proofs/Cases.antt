@@ -1,8 +1,8 @@
 -- P14 through send, and an example.
 use mathlib.Core.Path.{refl}
 use mathlib.Core.List.{_∷_, _++_}
-use Rattle.bits.specs.Octets.{bitsOf, lineBits}
-use Rattle.bits.specs.Octets.{octetOf, packed, wholeOctets, bitsAfter}
+use Rattle.board.specs.Rows.{rowOf, table}
+use Rattle.bits.specs.Octets.{bitsOf, lineBits, octetOf, packed, wholeOctets, bitsAfter}
 use Rattle.fcs.specs.Check.{checkOf, checkOctets}
 use Rattle.sending.specs.Packing.{octetsOut, stillWaiting}
 use Rattle.sending.specs.Stuffing.{flag, stuffed, unitBits, unitLine}
@@ -24,5 +24,5 @@ p14 l content output z =
     }
 
 pub three-sent : ThreeSent
-unfolding octetsSent linkAfter sendAnswer fillAnswer sendNumber fillNumber first malformed openMalformed transmitterOut monitorOut counterOut lineOut inRange zeroPast noOnes clearArea unitOut fillOut unitLine unitBits lineBits bitsOf octetOf packed wholeOctets bitsAfter octetsOut stillWaiting checkOf checkOctets
+unfolding rowOf table octetsSent linkAfter sendAnswer fillAnswer sendNumber fillNumber first malformed openMalformed transmitterOut monitorOut counterOut lineOut inRange zeroPast noOnes clearArea unitOut fillOut unitLine unitBits lineBits bitsOf octetOf packed wholeOctets bitsAfter octetsOut stillWaiting checkOf checkOctets
 three-sent = (refl, refl, refl)

@@ -4,6 +4,8 @@ use mathlib.Core.Path.{_≡_}
 use mathlib.Core.Bool.{Bool, true, false}
 use mathlib.Core.List.{List, [], _∷_, _++_}
 use lib.ListN.{length, drop, replicate}
+use Rattle.bits.specs.Format.{basic}
+use Rattle.board.specs.Rows.{rowSettings}
 use Rattle.bits.specs.Octets.{lineBits}
 use Rattle.sending.specs.Stream.{streamLine}
 use Rattle.board.specs.declared.Settings.{Settings}
@@ -60,11 +62,10 @@ P14 =
 
 -- An example: what a fill, a send of 1F 02 03 and a fill put out from opening on, computed apart from this by polynomial division.
 abbrev pub area : List ℕ
-area = replicate 336 0
+area = replicate (basic .output) 0
 
 abbrev pub row1 : Settings
-row1 =
-    record { k = 1; m = 278; n = 16; t = 64; d = 256; a = 4; mask = 255 ∷ 255 ∷ 255 ∷ 255 ∷ 255 ∷ []; filter = false; itu = false; orn = false }
+row1 = rowSettings 1 1 false
 
 abbrev pub three : List Sending
 three = fill area ∷ send (0x1f ∷ 2 ∷ 3 ∷ []) area ∷ fill area ∷ []

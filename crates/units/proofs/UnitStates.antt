@@ -31,11 +31,10 @@ use Rattle.board.specs.Events.{eventBit}
 use Rattle.records.specs.declared.RecordKind.{RecordKind}
 use Rattle.records.specs.declared.RecordKind.the-variants as kinds
 use Rattle.records.specs.declared.Happening.{Happening}
-use Rattle.records.specs.Promises.{FirstFive, none}
-use Rattle.records.specs.Promises.{more as five-more}
+use Rattle.records.specs.Promises.{FirstFive, none, more as five-more}
 use Rattle.units.specs.Indications.{found, octetEnd}
 use Rattle.units.specs.Units.{UnitMemory, Effect, unitMemory, effect, unitStateOf, firstFive, begins, unitOf, isFree, oneMore, counted, shortTaken, handOver, byFate, byVerdict, ticks, tickOf, goodUnit, erroredUnit, closedUnit, octetEffect, effectOf, unitMemoryAfter, happenings, nextUnitMemory, happens}
-use Rattle.units.specs.Fit.{Fits}
+use Rattle.units.specs.InnerFit.{Fits}
 use Rattle.units.specs.Promises.{FitKept, OneFound, OneAtMost, FirstFives, Sums, SumKept, SumAfter, UnitMemoryAppend, HappeningsAppend}
 use Rattle.units.proofs.FirstFive.{five-length}
 

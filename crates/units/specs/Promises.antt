@@ -1,15 +1,16 @@
 -- What is promised of the unit state. The proofs are in proofs/Desks.antt.
-use Prim.Native.Nat.{ℕ, _+_, _%_, _≤_}
+use Prim.Native.Nat.{ℕ, _+_, _*_, _%_, _≤_}
 use mathlib.Core.Path.{_≡_}
 use mathlib.Core.List.{List, _++_}
 use lib.ListN.{length}
+use Rattle.bits.specs.Format.{basic, mostLongest}
 use Rattle.framing.specs.Delimitation.{Finding, closed, abort, long}
 use Rattle.board.specs.declared.Settings.{Settings}
 use Rattle.board.specs.declared.Counts.{Counts}
 use Rattle.records.specs.Promises.{FirstFive}
 use Rattle.units.specs.Indications.{Indication, found, octetEnd}
 use Rattle.units.specs.Units.{UnitMemory, nextUnitMemory, happens, unitMemoryAfter, happenings}
-use Rattle.units.specs.Fit.{Fits}
+use Rattle.units.specs.InnerFit.{Fits}
 
 -- the bits of a closed unit, of which 2,224 is the most that any M allows
 abbrev pub bitsIn : Indication → ℕ
@@ -19,7 +20,7 @@ bitsIn (found long) = 0
 bitsIn octetEnd = 0
 
 abbrev pub AtMostLongest : Indication → Type 0
-AtMostLongest m = bitsIn m ≤ 2224
+AtMostLongest m = bitsIn m ≤ 8 * mostLongest basic
 
 -- The unit state and the lent memory stay fit for each other.
 abbrev pub FitKept : Type 0

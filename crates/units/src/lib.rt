@@ -21,7 +21,7 @@ ghost use lib.ListN.{length, take, getD};
 ghost use Rattle.bits.specs.Octets.{lineBits, packed};
 ghost use Rattle.memory.specs.Lent.{statusWord, statusOf};
 ghost use Rattle.units.specs.Units.{unitMemory, effect, unitStateOf, firstFive, counted, goodUnit, erroredUnit, shortTaken, closedUnit, broken, tickOf};
-ghost use Rattle.units.specs.Fit.{Fits};
+ghost use Rattle.units.specs.InnerFit.{Fits};
 
 // The unit state after a finding, and what happened.
 pub struct Taken {

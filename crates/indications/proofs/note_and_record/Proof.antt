@@ -9,7 +9,7 @@ use Rattle.indications.proofs.note_and_record.Tie as tie
 note-requires : tie.Need-note-requires
 note-requires c κs =
     let s = c .before .before in
-    range-takes (monitorLimits (s .args .s)) (s .args .supervision .monitor) (s .pre .0) (s .pre .1)
+    range-takes (s .args .s) (s .args .supervision .monitor) (s .pre .0) (s .pre .1)
 
 write-record-requires : tie.Need-write-record-requires
 write-record-requires c κs = search needs

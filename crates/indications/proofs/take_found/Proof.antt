@@ -33,7 +33,7 @@ clear-requires c κs =
 note-and-record-requires : tie.Need-note-and-record-requires
 note-and-record-requires c κs =
     let s = c .before .before .before .before .before .before .before .before .before .before .before .before .before .before .before .before .before .before .before in
-    (s .pre .0 .limits, s .pre .0 .monitor, s .pre .0 .room)
+    (s .pre .0 .settings, s .pre .0 .monitor, s .pre .0 .room)
 
 enum-told-2 : tie.Need-enum-told-2
 enum-told-2 c = search needs
@@ -44,7 +44,7 @@ break-off-requires c κs = search needs
 note-and-record-requires-2 : tie.Need-note-and-record-requires-2
 note-and-record-requires-2 c κs =
     let s = c .before .before .before .before .before .before .before .before .before in
-    (s .pre .0 .limits, s .pre .0 .monitor, s .pre .0 .room)
+    (s .pre .0 .settings, s .pre .0 .monitor, s .pre .0 .room)
 
 enum-told-3 : tie.Need-enum-told-3
 enum-told-3 c = search needs
@@ -55,7 +55,7 @@ break-off-requires-2 c κs = search needs
 note-and-record-requires-3 : tie.Need-note-and-record-requires-3
 note-and-record-requires-3 c κs =
     let s = c .before .before .before .before .before .before .before .before .before in
-    (s .pre .0 .limits, s .pre .0 .monitor, s .pre .0 .room)
+    (s .pre .0 .settings, s .pre .0 .monitor, s .pre .0 .room)
 
 returns : tie.Need-returns
 returns c =

@@ -5,10 +5,10 @@ use native.Mathlib.Omega.{arith}
 use lib.ListN.{length}
 use Rattle.board.specs.Limits.{recordOctets, recordRoom}
 use Rattle.indications.specs.declared.Progress.{Progress}
-use Rattle.indications.specs.Writing.{holding}
-use Rattle.reception.specs.Writing.{StateInRange, LineTaken}
+use Rattle.indications.specs.InnerWriting.{holding}
+use Rattle.reception.specs.InnerWriting.{StateInRange, LineTaken}
 use Rattle.bits.proofs.Typed.{array-of-octets}
-use Rattle.input.proofs.Receiving.{receivable, limits, ready, held, receive-refused, receive-done}
+use Rattle.input.proofs.Receiving.{receivable, ready, held, receive-refused, receive-done}
 use borrow.Author.Needs.{needs}
 use Rattle.input.proofs.receive.Statement.{statement}
 use Rattle.input.proofs.receive.Tie as tie
@@ -42,9 +42,7 @@ take-line-requires c κs =
     let typed = array-of-octets 279 (a .link .line .area) _ (s .good .0 .1 .1 .1 .1 .0 .1 .1 .1 .0) in
     let p = c .before .before .before .before .before .before .before .progress-of .ensures in (
       (
-        ok .order .settings .m .0,
-        ok .order .settings .m .1,
-        limits (a .link) (a .octets .now) (a .pool .now) (a .descriptors .now) (a .records .now) ok,
+        ok .formed .settings,
         subst (λ (x : Progress). StateInRange (a .link .settings) (holding x (a .pool .now) (a .descriptors .now) (a .records .now))) (sym p) (ready (a .link) (a .octets .now) (a .pool .now) (a .descriptors .now) (a .records .now) ok),
       ),
       (held (a .link) (a .octets .now) (a .pool .now) (a .descriptors .now) (a .records .now) ok typed, subst (λ (x : Progress). recordOctets * x .count + recordRoom * length (a .octets .now) ≤ length (a .records .now)) (sym p) (omega (arith, ok .room)), ok .few),
@@ -71,7 +69,7 @@ returns-2 c =
     let p = c .before .before .before .before .before .before .before .before .before .before .before .before .before .before .before .before .before .progress-of .ensures in
     let t = c .before .before .before .before .before .before .before .before .before .take-line in
     receive-done (a .link) (a .octets .now) (a .pool .now) (a .descriptors .now) (a .records .now) (n .result) (n .ensures) (t .result) (t .last .1 .1 .1 .1 .0) (t .last .1 .1 .1 .1 .1 .0) (t .last .1 .1 .1 .1 .1 .1 .0)
-    (t .last .1 .1 .1 .1 .1 .1 .1 .0) (c .link-received .result) z (ok .order .settings .m .1)
+    (t .last .1 .1 .1 .1 .1 .1 .1 .0) (c .link-received .result) z (ok .formed .settings .m .1)
     (subst (λ (x : Progress).
     LineTaken (a .link .settings) (a .link .line .state) (a .link .line .area) (a .octets .now) (holding x (a .pool .now) (a .descriptors .now) (a .records .now)) (t .result)
     (t .last .1 .1 .1 .1 .0) (holding (t .result .progress) (t .last .1 .1 .1 .1 .1 .0) (t .last .1 .1 .1 .1 .1 .1 .0) (t .last .1 .1 .1 .1 .1 .1 .1 .0))) p (t .ensures))

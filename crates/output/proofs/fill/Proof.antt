@@ -6,7 +6,7 @@ use native.Mathlib.Omega.{arith}
 use borrow.Author.Tests.{not-true, not-false}
 use Rattle.sending.specs.declared.Tx.{Tx}
 use Rattle.sending.specs.Stuffing.{flag}
-use Rattle.sending.specs.Packing.{Puts, TxInRange, Room}
+use Rattle.sending.specs.InnerPutting.{Puts, TxInRange, Room}
 use Rattle.bits.proofs.Typed.{array-of-octets}
 use Rattle.output.specs.Output.{sender, unitOut}
 use Rattle.output.proofs.Outputs.{fill-number, fillable, ready, unit-room, flag-room, fill-content, fill-refused, flag-done, fill-done}
@@ -37,7 +37,7 @@ put-flag-requires c κs =
     let e = fill-number (a .l) (a .output .now) (n .result) (n .ensures) in
     let ok = fillable (a .l) (a .output .now) (sym e ∙ c .before .before .before .before .before .before .if1 .left) in
     subst (λ (x : Tx). TxInRange x × Room x flag (a .output .now)) (sym (c .before .sender-of .ensures))
-    (ready (a .l) (ok .order) (s .good .0 .1 .1 .1 .1 .1 .1 .1 .0 .1 .1 .1 .1 .0 .1), flag-room (a .l) (a .output .now) ok)
+    (ready (a .l) (ok .formed) (s .good .0 .1 .1 .1 .1 .1 .1 .1 .0 .1 .1 .1 .1 .0 .1), flag-room (a .l) (a .output .now) ok)
 
 link-sent-requires : tie.Need-link-sent-requires
 link-sent-requires c κs = search needs
@@ -71,7 +71,7 @@ put-out-requires c κs =
     let e = fill-number (a .l) (a .output .now) (n .result) (n .ensures) in
     let ok = fillable (a .l) (a .output .now) (sym e ∙ c .before .before .before .before .before .before .if1 .left) in
     let typed = array-of-octets 2 (a .l .transmitter .last) _ (s .good .0 .1 .1 .1 .1 .1 .1 .1 .0 .1 .1 .1 .1 .1 .1 .0) in
-    (ready (a .l) (ok .order) (s .good .0 .1 .1 .1 .1 .1 .1 .1 .0 .1 .1 .1 .1 .0 .1), unit-room (a .l) _ (a .output .now) ok (omega arith))
+    (ready (a .l) (ok .formed) (s .good .0 .1 .1 .1 .1 .1 .1 .1 .0 .1 .1 .1 .1 .0 .1), unit-room (a .l) _ (a .output .now) ok (omega arith))
 
 link-sent-requires-2 : tie.Need-link-sent-requires-2
 link-sent-requires-2 c κs = search needs

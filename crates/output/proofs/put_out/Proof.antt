@@ -2,7 +2,7 @@
 use mathlib.Core.Path.{sym, subst}
 use Rattle.sending.specs.declared.Tx.{Tx}
 use Rattle.sending.specs.Stuffing.{flag, unitLine}
-use Rattle.sending.specs.Packing.{Puts, TxInRange, Room}
+use Rattle.sending.specs.InnerPutting.{Puts, TxInRange, Room}
 use Rattle.output.proofs.Outputs.{flagged-room, flagged-puts, first-room, then-ready, then-puts}
 use borrow.Author.Needs.{needs}
 use Rattle.output.proofs.put_out.Statement.{statement}

@@ -24,7 +24,7 @@ put-out-requires c κs =
     let s = c .before .before .before .before .before .before .before in
     let a = s .args in
     let ok = sendable (a .l) (a .content .now) (a .output .now) (sym (c .before .before .before .send-number .ensures) ∙ c .before .before .if1 .left) in
-    (ready (a .l) (ok .0 .order) (s .good .0 .1 .1 .1 .1 .1 .1 .1 .0 .1 .1 .1 .1 .0 .1), unit-room (a .l) (a .content .now) (a .output .now) (ok .0) (ok .2))
+    (ready (a .l) (ok .0 .formed) (s .good .0 .1 .1 .1 .1 .1 .1 .1 .0 .1 .1 .1 .1 .0 .1), unit-room (a .l) (a .content .now) (a .output .now) (ok .0) (ok .2))
 
 shared-slice-read-t15 : tie.Need-shared-slice-read-t15
 shared-slice-read-t15 c =

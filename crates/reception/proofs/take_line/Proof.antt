@@ -5,8 +5,8 @@ use Prim.Native.Nat.{_≤_, _-_}
 use mathlib.Core.Path.{_≡_, refl, sym, _∙_}
 use native.Mathlib.Omega.{arith}
 use lib.ListN.{length, take}
-use Rattle.indications.specs.Writing.{holding}
-use Rattle.reception.specs.Writing.{LineTaken}
+use Rattle.indications.specs.InnerWriting.{holding}
+use Rattle.reception.specs.InnerWriting.{LineTaken}
 use Rattle.reception.proofs.Lines.{taken-none, taken-next, taken-all, same-out, room-left, next-able}
 
 abbrev Inv-loop : tie.InvT-loop
@@ -21,7 +21,7 @@ loop-holds : tie.Need-loop-holds Inv-loop μ-loop
 loop-holds c =
     let a = c .before .before .before .before .args in
     let p = c .before .before .before .before .pre in
-    (omega arith, taken-none (a .s) (a .line) (a .area .now) (holding (a .p) (a .pool .now) (a .descriptors .now) (a .out .now)) (a .p) (a .pool .now) (a .descriptors .now) (a .out .now) refl (p .1 .0) (p .0 .3))
+    (omega arith, taken-none (a .s) (a .line) (a .area .now) (holding (a .p) (a .pool .now) (a .descriptors .now) (a .out .now)) (a .p) (a .pool .now) (a .descriptors .now) (a .out .now) refl (p .1 .0) (p .0 .1))
 
 shared-slice-read-take-octet : tie.Need-shared-slice-read-take-octet Inv-loop μ-loop
 shared-slice-read-take-octet c = c .before .loop-test .taken
@@ -32,7 +32,7 @@ take-octet-requires c κs =
     let p = c .before .before .before .before .before .before .before .before .before .before .before .pre in
     let l = c .before .before .before .before .before .before .loop in
     let k = room-left (a .s) (a .line) (a .area .now) (holding (a .p) (a .pool .now) (a .descriptors .now) (a .out .now)) (a .octets .now) (l .at) (c .before .before .before .before .before .loop-test .taken) (record { line = l .cur; progress = l .q }) (l .area) (holding (l .q) (l .pool) (l .descriptors) (l .out)) (p .1 .1) (l .inv .1) in
-    (next-able (a .s) (l .q) (l .pool) (l .descriptors) (l .out) (p .0 .0, p .0 .1) (p .0 .2) (l .inv .1 .ready) k, (l .inv .1 .held, k))
+    (next-able (a .s) (l .q) (l .pool) (l .descriptors) (l .out) (p .0 .0) (l .inv .1 .ready) k, (l .inv .1 .held, k))
 
 add-at : tie.Need-add-at Inv-loop μ-loop
 add-at c = omega (arith, c .before .before .before .before .before .before .before .before .before .before .before .before .before .before .loop-test .taken, c .before .before .before .before .before .before .before .before .before .before .before .before .before .before .before .before .before .before .before .before .pre .1 .2)
@@ -53,10 +53,10 @@ loop-again c =
     )
 
 same-length : tie.Need-same-length Inv-loop μ-loop
-same-length c = c .before .loop .inv .1 .ready .fits .octets ∙ sym (c .before .before .before .before .before .before .pre .0 .3 .fits .octets)
+same-length c = c .before .loop .inv .1 .ready .fits .octets ∙ sym (c .before .before .before .before .before .before .pre .0 .1 .fits .octets)
 
 same-length-2 : tie.Need-same-length-2 Inv-loop μ-loop
-same-length-2 c = c .before .loop .inv .1 .ready .fits .words ∙ sym (c .before .before .before .before .before .before .pre .0 .3 .fits .words)
+same-length-2 c = c .before .loop .inv .1 .ready .fits .words ∙ sym (c .before .before .before .before .before .before .pre .0 .1 .fits .words)
 
 same-length-3 : tie.Need-same-length-3 Inv-loop μ-loop
 same-length-3 c =

@@ -4,9 +4,9 @@ use Rattle.reception.proofs.take_octet.Tie as tie
 use mathlib.Core.Path.{_≡_, sym, _∙_}
 use native.Mathlib.Omega.{arith}
 use Rattle.bits.specs.Octets.{bitsOf}
-use Rattle.framing.specs.Delimitation.{reading}
+use Rattle.framing.specs.InnerReading.{reading}
 use Rattle.framing.specs.Representation.{decode}
-use Rattle.indications.specs.Writing.{holding}
+use Rattle.indications.specs.InnerWriting.{holding}
 use Rattle.reception.proofs.Octets.{Between, at-start, able, stands-in, shown, less, turn, ended}
 
 abbrev Inv-loop : tie.InvT-loop
@@ -26,7 +26,7 @@ loop-holds c =
 feed-requires : tie.Need-feed-requires Inv-loop μ-loop
 feed-requires c κs =
     let b = c .before .before .loop .inv in
-    ((b .longest .1, b .few), b .held)
+    ((b .settings .m .1, b .few), b .held)
 
 take-found-requires : tie.Need-take-found-requires Inv-loop μ-loop
 take-found-requires c κs =
@@ -34,7 +34,7 @@ take-found-requires c κs =
     let l = c .before .before .before .before .before .before .before .before .before .loop in
     let f = c .before .before .before .before .before .before .feed in (
       able (a .s) (a .line) (a .area .now) (a .octet) (holding (a .p) (a .pool .now) (a .descriptors .now) (a .out .now)) (l .area) (l .pool) (l .descriptors) (l .out) (l .cur) (l .rest) (l .left) (l .q) (l .inv),
-      stands-in (a .s .m) (f .result .step .line) (f .result .step .found) (f .last .1 .1 .0) (l .inv .longest .1) (f .ensures .step .holds),
+      stands-in (a .s .m) (f .result .step .line) (f .result .step .found) (f .last .1 .1 .0) (l .inv .settings .m .1) (f .ensures .step .holds),
     )
 
 loop-less : tie.Need-loop-less Inv-loop μ-loop
@@ -59,7 +59,7 @@ loop-again c =
 end-octet-requires : tie.Need-end-octet-requires Inv-loop μ-loop
 end-octet-requires c κs =
     let b = c .before .before .loop .inv in
-    (b .limits, b .ready .monitor, omega (arith, b .room), b .ready .fits .counter)
+    (b .settings, b .ready .monitor, omega (arith, b .room), b .ready .fits .counter)
 
 same-length : tie.Need-same-length Inv-loop μ-loop
 same-length c =

@@ -7,8 +7,9 @@ use borrow.Author.Needs.{needs}
 use denote.Ref.{now}
 use Rattle.bits.specs.Octets.{odd, bitsOf}
 use Rattle.bits.proofs.Digits.{bits-cons}
-use Rattle.framing.specs.Delimitation.{Receiver, Reading, reading}
-use Rattle.framing.specs.Representation.{decode, wellFormed}
+use Rattle.framing.specs.Delimitation.{Receiver}
+use Rattle.framing.specs.InnerReading.{Reading, reading, wellFormed}
+use Rattle.framing.specs.Representation.{decode}
 use Rattle.framing.proofs.Readings.{quiet-round, loud-round, at-end}
 use Rattle.framing.proofs.delimit.feed.Statement.{statement}
 use Rattle.framing.proofs.delimit.feed.Tie as tie

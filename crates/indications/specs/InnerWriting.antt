@@ -4,35 +4,35 @@ use mathlib.Core.Path.{_≡_}
 use mathlib.Core.List.{List, []}
 use lib.ListN.{length, take}
 use lib.Seq.{sets}
+use Rattle.board.specs.InnerRanges.{SettingsInRange, MonitorInRange}
 use Rattle.board.specs.Limits.{recordOctets, monitorLimits}
 use Rattle.monitor.specs.declared.Limits.{Limits}
 use Rattle.board.specs.declared.Supervision.{Supervision}
-use Rattle.records.specs.Promises.{LimitsInRange, MonitorInRange}
 use Rattle.records.specs.Record.{supervised, recorded, supervisionAfter, recordsOf}
 use Rattle.framing.specs.Delimitation.{Finding}
 use Rattle.bits.specs.Octets.{lineBits, packed}
 use Rattle.framing.specs.declared.Found.{Found}
 use Rattle.framing.specs.declared.Found.the-variants.{Nothing, Closed, Abort, Long}
-use Rattle.framing.specs.Representation.{shows, unitIn}
+use Rattle.framing.specs.InnerReading.{shows, unitIn}
 use Rattle.board.specs.declared.Settings.{Settings}
 use Rattle.units.specs.declared.Taken.{Taken}
-use Rattle.units.specs.Fit.{Fits}
+use Rattle.units.specs.InnerFit.{Fits}
 use Rattle.units.specs.Indications.{Indication}
 use Rattle.units.specs.Units.{UnitMemory, unitMemory, unitMemoryAfter, happenings}
 use Rattle.indications.specs.declared.Progress.{Progress}
 
-pub record Written : Type 0 where
+pub record CallState : Type 0 where
   pub unitMemory : UnitMemory
   pub supervision : Supervision
   pub out : List ℕ
   pub count : ℕ
 
 -- what the code holds between two indications
-abbrev pub holding : Progress → List ℕ → List ℕ → List ℕ → Written
+abbrev pub holding : Progress → List ℕ → List ℕ → List ℕ → CallState
 holding p pool descriptors out = record { unitMemory = unitMemory (p .units) pool descriptors; supervision = p .supervision; out = out; count = p .count }
 
 -- after indications: the records stand one after the other
-unfoldable pub indicationsDone : Settings → Written → List Indication → Written
+unfoldable pub indicationsDone : Settings → CallState → List Indication → CallState
 indicationsDone s w ms =
     let hs = happenings s (w .unitMemory) ms in
     record {
@@ -49,9 +49,8 @@ pub record NotedAndRecorded (s : Settings) (taken : Taken) (w : Supervision) (co
 
 -- what the code needs between two indications: limits and monitor in range, memory that fits, and room for one record
 pub record Able (s : Settings) (p : Progress) (pool descriptors out : List ℕ) : Type 0 where
-  pub longest : (7 ≤ s .m) × (s .m ≤ 278)
-  pub limits : LimitsInRange (monitorLimits s)
-  pub monitor : MonitorInRange (monitorLimits s) (p .supervision .monitor)
+  pub settings : SettingsInRange s
+  pub monitor : MonitorInRange s (p .supervision .monitor)
   pub fits : Fits s (p .units) pool descriptors
   pub room : recordOctets * p .count + recordOctets ≤ length out
 

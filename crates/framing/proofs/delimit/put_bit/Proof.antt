@@ -1,10 +1,10 @@
--- `framing::area::put_bit` meets its contract: a one is set at its place, a zero stands there already.
+-- `framing::delimit::put_bit` meets its contract: a one is set at its place, a zero stands there already.
 use borrow.Author.Needs.{needs}
 use denote.Ref.{now}
 use native.Mathlib.Omega.{arith}
 use Rattle.bits.proofs.Gathering.{put-one, put-zero}
-use Rattle.framing.proofs.area.put_bit.Statement.{statement}
-use Rattle.framing.proofs.area.put_bit.Tie as tie
+use Rattle.framing.proofs.delimit.put_bit.Statement.{statement}
+use Rattle.framing.proofs.delimit.put_bit.Tie as tie
 
 cast-at : tie.Need-cast-at
 cast-at c = search needs
