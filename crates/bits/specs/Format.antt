@@ -1,21 +1,21 @@
 -- The format of a signal unit: what is basic, and what follows from it.
 use Prim.Native.Nat.{ℕ, _+_}
 
--- numbers: octets of sequence numbers with their indicator bits; indicator: octets of the length indicator;
+-- sequence: octets of sequence numbers with their indicator bits; indicator: octets of the length indicator;
 -- slot: octets of a slot; output: least octets of an output area
 pub record Format : Type 0 where
-  pub numbers : ℕ
+  pub sequence : ℕ
   pub indicator : ℕ
   pub slot : ℕ
   pub output : ℕ
 
 -- the format of document 01
 abbrev pub basic : Format
-basic = record { numbers = 2; indicator = 1; slot = 280; output = 336 }
+basic = record { sequence = 2; indicator = 1; slot = 280; output = 336 }
 
 -- what a unit begins with: 3 octets
 abbrev pub header : Format → ℕ
-header F = F .numbers + F .indicator
+header F = F .sequence + F .indicator
 
 -- a fill-in unit is a header and two check octets: 5. So many octets the filter compares.
 abbrev pub fillInOctets : Format → ℕ

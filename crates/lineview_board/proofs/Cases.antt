@@ -19,9 +19,9 @@ use Rattle.link.specs.Calls.{openAnswer, commandAnswer, handAnswer}
 use Rattle.input.specs.Receive.{receiveAnswer}
 use Rattle.link.specs.Refusals.{first, fitsMemory, openNumber, commandNumber, readNumber}
 use Rattle.input.specs.Refusals.{receiveNumber}
-use Rattle.lineview_board.specs.View.{boardOpened, handedFrom, fed, allWritten}
+use Rattle.lineview_board.specs.View.{boardOpened, handedFrom, octetFed, allWritten}
 use Rattle.lineview_board.specs.Promises.{P2}
 
 pub p2 : P2
-unfolding allWritten boardOpened handedFrom fed bitsOf lineBits octetOf packed wholeOctets stepBit reading verdictOf step zeros emptyDescriptors clearArea noOnes zeroPast inRange lineOut counterOut monitorOut transmitterOut openMalformed isNew malformed table rowOf noted recordOf supervisionAfter recordsOf erroredUnit closedUnit octetEffect effectOf unitMemoryAfter happenings lineReceiver lineIndications lineHappenings boardAfter lineRecords openAnswer commandOf obeyed commandAnswer handAnswer receiveAnswer first fitsMemory openNumber commandNumber readNumber receiveNumber
+unfolding allWritten boardOpened handedFrom octetFed bitsOf lineBits octetOf packed wholeOctets stepBit reading verdictOf step zeros emptyDescriptors clearArea noOnes zeroPast inRange lineOut counterOut monitorOut transmitterOut openMalformed isNew malformed table rowOf noted recordOf supervisionAfter recordsOf erroredUnit closedUnit octetEffect effectOf unitMemoryAfter happenings lineReceiver lineIndications lineHappenings boardAfter lineRecords openAnswer commandOf obeyed commandAnswer handAnswer receiveAnswer first fitsMemory openNumber commandNumber readNumber receiveNumber
 p2 = refl

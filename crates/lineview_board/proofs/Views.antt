@@ -11,7 +11,7 @@ use Rattle.link.specs.declared.Answer.{Answer}
 use Rattle.link.specs.Calls.{Outcome, openAnswer, commandAnswer, handAnswer}
 use Rattle.input.specs.Receive.{ReceiveOutcome, receiveAnswer}
 use Rattle.link.specs.Held.{Held, handedBack}
-use Rattle.lineview_board.specs.View.{rowOne, boardOpened, handedFrom, filledBack, fed}
+use Rattle.lineview_board.specs.View.{rowOne, boardOpened, handedFrom, filledBack, octetFed}
 
 -- opened, then the failure monitor started
 pub board-opened-is : (l : Link) (s : Settings) (pool descriptors : List ℕ) (o : Outcome) (r : Answer) → l ≡ newLink → s ≡ rowOne
@@ -53,8 +53,8 @@ pub fed-is : (l : Link) (octet : ℕ) (pool descriptors records : List ℕ) (r :
     → r ≡ receiveAnswer l (octet ∷ []) pool descriptors records
     → h ≡ filledBack (record { link = r .link; pool = r .pool; descriptors = r .descriptors })
     → record { number = r .number; link = h .link; count = r .count; pool = h .pool; descriptors = h .descriptors; records = r .records }
-    ≡ fed l octet pool descriptors records
-unfolding fed
+    ≡ octetFed l octet pool descriptors records
+unfolding octetFed
 fed-is l octet pool descriptors records r h er eh =
     let back = eh ∙ ap (λ (x : ReceiveOutcome). filledBack (record { link = x .link; pool = x .pool; descriptors = x .descriptors })) er in
     λ i.

@@ -33,8 +33,8 @@ abbrev pub filledBack : Held → Held
 filledBack h = handedFrom 0 16 h
 
 -- one line octet received, then the slots
-unfoldable pub fed : Link → ℕ → List ℕ → List ℕ → List ℕ → ReceiveOutcome
-fed l octet pool descriptors records =
+unfoldable pub octetFed : Link → ℕ → List ℕ → List ℕ → List ℕ → ReceiveOutcome
+octetFed l octet pool descriptors records =
     let r = receiveAnswer l (octet ∷ []) pool descriptors records in
     let h = filledBack (record { link = r .link; pool = r .pool; descriptors = r .descriptors }) in
     record {
@@ -49,11 +49,11 @@ fed l octet pool descriptors records =
 -- the booking after one line octet, for which a clear record area is lent
 abbrev pub passed : Held → ℕ → Held
 passed h octet =
-    let f = fed (h .link) octet (h .pool) (h .descriptors) (replicate recordRoom 0) in record { link = f .link; pool = f .pool; descriptors = f .descriptors }
+    let f = octetFed (h .link) octet (h .pool) (h .descriptors) (replicate recordRoom 0) in record { link = f .link; pool = f .pool; descriptors = f .descriptors }
 
 -- "writes records": those of each octet, as they come
 abbrev pub viewRecords : Held → ℕ → List ℕ
-viewRecords h octet = let f = fed (h .link) octet (h .pool) (h .descriptors) (replicate recordRoom 0) in take (recordOctets * f .count) (f .records)
+viewRecords h octet = let f = octetFed (h .link) octet (h .pool) (h .descriptors) (replicate recordRoom 0) in take (recordOctets * f .count) (f .records)
 
 unfoldable pub allWritten : Held → List ℕ → List ℕ
 allWritten h octets = outs passed viewRecords h octets

@@ -6,7 +6,7 @@ ghost use mathlib.Core.Path.{_≡_};
 ghost use Prim.Native.Nat.{_*_, _≤_};
 ghost use lib.ListN.{length};
 ghost use Rattle.board.specs.Limits.{recordOctets};
-ghost use Rattle.lineview_board.specs.View.{rowOne, boardOpened, filledBack, fed};
+ghost use Rattle.lineview_board.specs.View.{rowOne, boardOpened, filledBack, octetFed};
 
 // Row 1 with 16 slots, the mask all ones, the switches off.
 fn settings() -> Settings
@@ -60,7 +60,7 @@ pub fn feed(
     descriptors: &mut [u16],
     records: &mut [u8],
 ) -> Received
-    ensures { λ r. ⌜ record { number = r .number; link = r .link; count = r .count; pool = now (pool .exit); descriptors = now (descriptors .exit); records = now (records .exit) } ≡ fed link octet (now (pool .entry)) (now (descriptors .entry)) (now (records .entry)) ⌝ }
+    ensures { λ r. ⌜ record { number = r .number; link = r .link; count = r .count; pool = now (pool .exit); descriptors = now (descriptors .exit); records = now (records .exit) } ≡ octetFed link octet (now (pool .entry)) (now (descriptors .entry)) (now (records .entry)) ⌝ }
 {
     let octets = [octet];
     let got = calls::receive(link, &octets, &mut *pool, &mut *descriptors, records);

@@ -72,7 +72,7 @@ notSent n l output = record { number = n; link = l; count = 0; output = output }
 -- "7 sent"
 unfoldable pub sendAnswer : Link → List ℕ → List ℕ → OutputOutcome
 sendAnswer l content output =
-    cond (eqb (sendNumber l content output) 0) (putOut l (unitOut (l .transmitter) content) true (take (basic .numbers) content) (eventBit events.Sent) output)
+    cond (eqb (sendNumber l content output) 0) (putOut l (unitOut (l .transmitter) content) true (take (basic .sequence) content) (eventBit events.Sent) output)
     (notSent (sendNumber l content output) l output)
 
 unfoldable pub fillAnswer : Link → List ℕ → OutputOutcome

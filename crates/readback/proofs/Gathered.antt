@@ -12,7 +12,7 @@ use Rattle.bits.specs.Octets.{bitsOf}
 use Rattle.bits.proofs.Digits.{snoc-length}
 use Rattle.framing.specs.Delimitation.{Receiver, Finding, closed, abort, long, hunts, inside, flagged, unit, gather, flag, stepBit, next, finds, receiverAfter, findings}
 use Rattle.units.specs.Indications.{Indication, found, octetEnd, octetReceiver, octetIndications, lineReceiver, lineIndications}
-use Rattle.reception.proofs.Octets.{AllAllowed, none-left, one-more}
+use Rattle.reception.proofs.Octets.{AllAtMostLongest, none-left, one-more}
 
 -- no unit is closed
 pub data Unclosed : List Finding → Type 0 where
@@ -34,12 +34,12 @@ inside-sound r g h = record { run = h; idle = λ e. absurd (false≢true e) }
 -- ---- one bit
 record Step (M : ℕ) (s : Receiver) (st : Receiver × List Finding) : Type 0 where
   held : length (s .gathered) ≤ 8 * M + 7 → length (st .0 .gathered) ≤ 8 * M + 7
-  allowed : M ≤ 278 → length (s .gathered) ≤ 8 * M + 7 → AllAllowed (map found (st .1))
+  allowed : M ≤ 278 → length (s .gathered) ≤ 8 * M + 7 → AllAtMostLongest (map found (st .1))
   grows : length (st .0 .gathered) ≤ length (s .gathered) + 1
   stays : length (s .gathered) ≤ 7 → Unclosed (st .1)
   sound : Sound s → Sound (st .0)
 
-unit-allowed : (u : List Bool) → length u ≤ 2224 → AllAllowed (map found (unit u))
+unit-allowed : (u : List Bool) → length u ≤ 2224 → AllAtMostLongest (map found (unit u))
 unit-allowed [] h = none-left
 unit-allowed (b ∷ u) h = one-more {m = found (closed (b ∷ u))} h none-left
 
@@ -142,15 +142,15 @@ after-sound : (M : ℕ) (bs : List Bool) (s : Receiver) → Sound s → Sound (r
 after-sound M [] s h = h
 after-sound M (b ∷ bs) s h = after-sound M bs (next M s b) (step M s b .sound h)
 
-indications-both : (xs ys : List Indication) → AllAllowed xs → AllAllowed ys → AllAllowed (xs ++ ys)
+indications-both : (xs ys : List Indication) → AllAtMostLongest xs → AllAtMostLongest ys → AllAtMostLongest (xs ++ ys)
 indications-both [] ys none-left b = b
 indications-both (x ∷ xs) ys (one-more h a) b = one-more h (indications-both xs ys a b)
 
-found-both : (xs ys : List Finding) → AllAllowed (map found xs) → AllAllowed (map found ys) → AllAllowed (map found (xs ++ ys))
+found-both : (xs ys : List Finding) → AllAtMostLongest (map found xs) → AllAtMostLongest (map found ys) → AllAtMostLongest (map found (xs ++ ys))
 found-both [] ys a b = b
 found-both (x ∷ xs) ys (one-more h a) b = one-more h (found-both xs ys a b)
 
-findings-allowed : (M : ℕ) (bs : List Bool) (s : Receiver) → M ≤ 278 → length (s .gathered) ≤ 8 * M + 7 → AllAllowed (map found (findings M s bs))
+findings-allowed : (M : ℕ) (bs : List Bool) (s : Receiver) → M ≤ 278 → length (s .gathered) ≤ 8 * M + 7 → AllAtMostLongest (map found (findings M s bs))
 findings-allowed M [] s m h = none-left
 findings-allowed M (b ∷ bs) s m h =
     found-both (finds M s b) (findings M (next M s b) bs) (step M s b .allowed m h) (findings-allowed M bs (next M s b) m (step M s b .held h))
@@ -166,7 +166,7 @@ unfolding lineReceiver
 line-sound M [] s h = h
 line-sound M (x ∷ octets) s h = line-sound M octets (octetReceiver M s x) (after-sound M (bitsOf 8 x) s h)
 
-pub line-allowed : (M : ℕ) (octets : List ℕ) (s : Receiver) → M ≤ 278 → length (s .gathered) ≤ 8 * M + 7 → AllAllowed (lineIndications M s octets)
+pub line-allowed : (M : ℕ) (octets : List ℕ) (s : Receiver) → M ≤ 278 → length (s .gathered) ≤ 8 * M + 7 → AllAtMostLongest (lineIndications M s octets)
 unfolding lineIndications
 line-allowed M [] s m h = none-left
 line-allowed M (x ∷ octets) s m h =

@@ -43,9 +43,9 @@ use Rattle.indications.proofs.Recording.{indications-none, indications-append}
 
 -- ---- what indications keep
 -- each finding is one that the unit state can take
-pub data AllAllowed : List Indication → Type 0 where
-  none-left : AllAllowed []
-  one-more : {m : Indication} {ms : List Indication} → AtMostLongest m → AllAllowed ms → AllAllowed (m ∷ ms)
+pub data AllAtMostLongest : List Indication → Type 0 where
+  none-left : AllAtMostLongest []
+  one-more : {m : Indication} {ms : List Indication} → AtMostLongest m → AllAtMostLongest ms → AllAtMostLongest (m ∷ ms)
 
 five-append : (xs ys : List Happening) → FirstFive xs → FirstFive ys → FirstFive (xs ++ ys)
 five-append [] ys none g = g
@@ -56,7 +56,7 @@ unfolding happenings
 happenings-five s [] o = none
 happenings-five s (m ∷ ms) o = five-append (happens s o m) (happenings s (nextUnitMemory s o m) ms) (first-fives s o m) (happenings-five s ms (nextUnitMemory s o m))
 
-unit-memory-fits : (s : Settings) (ms : List Indication) (o : UnitMemory) → AllAllowed ms → Fits s (o .units) (o .pool) (o .descriptors)
+unit-memory-fits : (s : Settings) (ms : List Indication) (o : UnitMemory) → AllAtMostLongest ms → Fits s (o .units) (o .pool) (o .descriptors)
     → Fits s (unitMemoryAfter s o ms .units) (unitMemoryAfter s o ms .pool) (unitMemoryAfter s o ms .descriptors)
 unfolding unitMemoryAfter
 unit-memory-fits s [] o none-left f = f
@@ -75,7 +75,7 @@ found-count s (f ∷ fs) o =
     let r = found-count s fs (nextUnitMemory s o (found f)) in
     omega (arith, length-append (happens s o (found f)) (happenings s (nextUnitMemory s o (found f)) (map found fs)))
 
-pub ready-kept : (s : Settings) (w : CallState) (ms : List Indication) → SettingsInRange s → AllAllowed ms → StateInRange s w → StateInRange s (indicationsDone s w ms)
+pub ready-kept : (s : Settings) (w : CallState) (ms : List Indication) → SettingsInRange s → AllAtMostLongest ms → StateInRange s w → StateInRange s (indicationsDone s w ms)
 unfolding indicationsDone
 ready-kept s w ms l a r =
     record {
@@ -141,7 +141,7 @@ stands-in M l (Closed n) area m h = (closed-short M n l area m h, h .zeroed)
 stands-in M l Abort area m h = tt
 stands-in M l Long area m h = tt
 
-all-allowed : (M : ℕ) (l : Line) (fs : List Finding) (area : List ℕ) → M ≤ 278 → length fs ≤ 1 → Holds M l (standing (shows fs) (l .bits)) area → AllAllowed (map found fs)
+all-allowed : (M : ℕ) (l : Line) (fs : List Finding) (area : List ℕ) → M ≤ 278 → length fs ≤ 1 → Holds M l (standing (shows fs) (l .bits)) area → AllAtMostLongest (map found fs)
 all-allowed M l [] area m s h = none-left
 all-allowed M l (closed u ∷ []) area m s h = one-more (closed-short M (length u) l area m h) none-left
 all-allowed M l (abort ∷ []) area m s h = one-more {m = found abort} (omega arith) none-left

@@ -55,7 +55,7 @@ fillsFirst (fill output ∷ ss) = suc (fillsFirst ss)
 -- the contents of the units that are sent, where the last content began with these two octets, or none was sent
 unfoldable pub contentsFrom : List ℕ → List Sending → List (List ℕ)
 contentsFrom last [] = []
-contentsFrom last (send content output ∷ ss) = content ∷ contentsFrom (take (basic .numbers) content) ss
+contentsFrom last (send content output ∷ ss) = content ∷ contentsFrom (take (basic .sequence) content) ss
 contentsFrom [] (fill output ∷ ss) = contentsFrom [] ss
 contentsFrom (x ∷ last) (fill output ∷ ss) = fillContent basic (x ∷ last) ∷ contentsFrom (x ∷ last) ss
 

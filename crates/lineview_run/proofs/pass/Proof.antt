@@ -1,4 +1,4 @@
--- `viewing::pass` meets its contract: the octet is fed with a clear record area.
+-- `lineview_run::pass` meets its contract: the octet is fed with a clear record area.
 use mathlib.Core.Path.{ap}
 use Rattle.input.specs.Receive.{ReceiveOutcome}
 use borrow.Author.Needs.{needs}

@@ -1,4 +1,4 @@
--- `viewing::pass_all` meets its contract: the octets left, fed from here, make up all of them.
+-- `lineview_run::pass_all` meets its contract: the octets left, fed from here, make up all of them.
 use Prim.Native.Nat.{_-_, _≤_}
 use mathlib.Core.Path.{_≡_, sym, _∙_}
 use mathlib.Core.Bool.{true, false≢true}

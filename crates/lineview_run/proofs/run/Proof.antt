@@ -1,4 +1,4 @@
--- `viewing::run` is safe and ends: a turn less is left after each.
+-- `lineview_run::run` is safe and ends: a turn less is left after each.
 use mathlib.Core.Path.{_≡_}
 use lib.ListN.{length}
 use borrow.Author.Needs.{needs}

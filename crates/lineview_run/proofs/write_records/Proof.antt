@@ -1,4 +1,4 @@
--- `viewing::write_records` is safe: the part that is written lies in the area.
+-- `lineview_run::write_records` is safe: the part that is written lies in the area.
 use mathlib.Core.Path.{sym}
 use lib.Seq.{length-take-le}
 use borrow.Author.Needs.{needs}
