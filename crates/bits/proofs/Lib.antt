@@ -6,3 +6,4 @@ pub mod Gathering
 pub mod Whole
 pub mod Writing
 pub mod Typed
+pub mod Machines

@@ -2,6 +2,7 @@
 pub mod Link
 pub mod Rows
 pub mod Limits
+pub mod Sizes
 pub mod Events
 pub mod Malformed
 pub mod InnerRanges

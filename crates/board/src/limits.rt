@@ -4,7 +4,7 @@ use memory::Status;
 ghost use mathlib.Core.Path.{_≡_};
 ghost use Rattle.bits.specs.Format.{basic};
 ghost use Rattle.memory.specs.Lent.{statusWord};
-ghost use Rattle.board.specs.Limits.{sizesOf};
+ghost use Rattle.board.specs.Sizes.{sizesOf};
 
 #[repr(C)]
 pub struct Range {

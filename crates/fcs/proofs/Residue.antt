@@ -6,7 +6,7 @@ use Prim.Native.Nat.{ℕ, zero, suc, _+_, _*_, _/_, _%_, _^_, _<_}
 use native.Mathlib.Omega.{arith}
 use lib.Bits.{bitXor, xor-zero-r, xor-lt}
 use Rattle.bits.specs.Octets.{bitsOf, lineBits, Octets, none, more}
-use Rattle.bits.specs.Machine.{run-append}
+use Rattle.bits.proofs.Machines.{run-append}
 use Rattle.bits.proofs.Digits.{bits-low, bits-more}
 use Rattle.bits.proofs.Lines.{line-append}
 use Rattle.fcs.specs.Check.{checkBit, checkBits, checkOf, goodResidue, checkOctets}

@@ -8,7 +8,8 @@ use Rattle.bits.specs.Format.{Format}
 use Rattle.filter.specs.declared.Kind.{Kind}
 use Rattle.filter.specs.declared.Kind.the-variants.{FillIn, LinkStatus, Message}
 use Rattle.filter.specs.Unit.{kindOf, alike}
-use Rattle.filter.specs.Memory.{drops, FilterInput, good, command-4, memoryAfter}
+use Rattle.filter.specs.Memory.{drops}
+use Rattle.filter.specs.History.{FilterInput, good, command-4, memoryAfter}
 use Rattle.filter.specs.Predecessors.{isMessage, needs, row, droppedAfter, none, more, HadItsLike}
 use Rattle.filter.specs.Promises.{DroppedExactly, DroppedHadItsLike, LikeHandedOver}
 use Rattle.filter.proofs.Likeness.{both, alike-transitive}

@@ -11,7 +11,8 @@ use Rattle.filter.specs.declared.Kind.the-variants.{FillIn, LinkStatus, 
 use Rattle.filter.specs.declared.Memory.{Memory}
 use Rattle.filter.specs.declared.Settled.{Settled}
 use Rattle.filter.specs.Unit.{kindOf, masked, same, alike}
-use Rattle.filter.specs.Memory.{emptyMemory, holdsLike, repeats, drops, forgets, remembers, settled, FilterInput, good, command-4, memoryAfter}
+use Rattle.filter.specs.Memory.{emptyMemory, holdsLike, repeats, drops, forgets, remembers, settled}
+use Rattle.filter.specs.History.{FilterInput, good, command-4, memoryAfter}
 use Rattle.filter.specs.Predecessors.{isMessage, needs, row, droppedAfter}
 use Rattle.filter.proofs.UnitKinds.{not-none, lengths-differ}
 use Rattle.filter.proofs.Likeness.{both, equal-parts, alike-parts}

@@ -3,11 +3,13 @@ use Prim.Native.Nat.{ℕ}
 use mathlib.Core.Path.{_≡_, refl, ap, _∙_}
 use mathlib.Core.Bool.{Bool, true, false, false≢true}
 use mathlib.Core.List.{List, [], _∷_, _++_, reverse, reverse-cons, append-nil}
-use Rattle.bits.specs.Machine.{run, outs, run-append, outs-append}
+use Rattle.bits.specs.Machine.{run, outs}
+use Rattle.bits.proofs.Machines.{run-append, outs-append}
 use Rattle.bits.specs.Format.{Format}
 use Rattle.filter.specs.declared.Fate.{Fate}
 use Rattle.filter.specs.declared.Memory.{Memory}
-use Rattle.filter.specs.Memory.{emptyMemory, settled, FilterInput, good, command-4, memoryNext, fateOf, memoryAfter, fates}
+use Rattle.filter.specs.Memory.{emptyMemory, settled}
+use Rattle.filter.specs.History.{FilterInput, good, command-4, memoryNext, fateOf, memoryAfter, fates}
 use Rattle.filter.specs.Promises.{OffDropsNothing, OffStaysEmpty}
 use Rattle.filter.proofs.Settling.{dropped-if}
 

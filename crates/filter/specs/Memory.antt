@@ -5,7 +5,6 @@ use mathlib.Core.List.{List, [], _∷_}
 use lib.Dec.{eqb}
 use lib.ListN.{length, replicate}
 use Rattle.bits.specs.Format.{Format, fillInOctets}
-use Rattle.bits.specs.Machine.{run, outs}
 use Rattle.filter.specs.declared.Kind.{Kind}
 use Rattle.filter.specs.declared.Kind.the-variants.{FillIn, LinkStatus, Message}
 use Rattle.filter.specs.declared.Fate.{Fate}
@@ -23,11 +22,6 @@ abbrev pub repeats : Kind → Bool → Bool → Bool
 repeats FillIn like before = like
 repeats LinkStatus like before = like && before
 repeats Message like before = false
-
--- What the filter is given from opening on: a good unit with whether its slot was free, and command 4. Units with errors are set aside.
-pub data FilterInput : Type 0 where
-  good : List ℕ → Bool → FilterInput
-  command-4 : FilterInput
 
 module _ (F : Format) where
   -- "opening empt[ies] the memory"
@@ -55,18 +49,3 @@ module _ (F : Format) where
   settled on mask m u free =
       cond (drops on mask m u) (record { fate = Dropped; memory = m })
       (cond free (record { fate = HandedOver; memory = remembers on mask m u }) (record { fate = Lost; memory = emptyMemory }))
-
-  abbrev pub memoryNext : Bool → List ℕ → Memory → FilterInput → Memory
-  memoryNext on mask m (good u free) = settled on mask m u free .memory
-  memoryNext on mask m command-4 = emptyMemory
-
-  abbrev pub fateOf : Bool → List ℕ → Memory → FilterInput → List Fate
-  fateOf on mask m (good u free) = settled on mask m u free .fate ∷ []
-  fateOf on mask m command-4 = []
-
-  -- the memory after a history, oldest first, and the fates of its good units
-  unfoldable pub memoryAfter : Bool → List ℕ → List FilterInput → Memory
-  memoryAfter on mask = run (memoryNext on mask) emptyMemory
-
-  unfoldable pub fates : Bool → List ℕ → List FilterInput → List Fate
-  fates on mask = outs (memoryNext on mask) (fateOf on mask) emptyMemory

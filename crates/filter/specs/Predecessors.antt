@@ -8,7 +8,7 @@ use Rattle.bits.specs.Format.{Format}
 use Rattle.filter.specs.declared.Kind.{Kind}
 use Rattle.filter.specs.declared.Kind.the-variants.{FillIn, LinkStatus, Message}
 use Rattle.filter.specs.Unit.{kindOf, alike}
-use Rattle.filter.specs.Memory.{FilterInput, good, command-4}
+use Rattle.filter.specs.History.{FilterInput, good, command-4}
 
 abbrev pub isMessage : Kind → Bool
 isMessage FillIn = false

@@ -9,7 +9,8 @@ use Rattle.bits.specs.Format.{Format, basic}
 use Rattle.filter.specs.declared.Fate.{Fate}
 use Rattle.filter.specs.declared.Fate.the-variants.{HandedOver, Dropped, Lost}
 use Rattle.filter.specs.declared.Memory.{Memory}
-use Rattle.filter.specs.Memory.{emptyMemory, settled, FilterInput, good, memoryAfter, fates}
+use Rattle.filter.specs.Memory.{emptyMemory, settled}
+use Rattle.filter.specs.History.{FilterInput, good, memoryAfter, fates}
 use Rattle.filter.specs.Predecessors.{droppedAfter, HadItsLike}
 
 -- ---- The filter by its memory and by the predecessors

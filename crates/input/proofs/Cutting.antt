@@ -21,7 +21,8 @@ use Rattle.units.specs.Units.{happenings}
 use Rattle.units.specs.Promises.{Sums}
 use Rattle.reception.specs.Line.{Board, boardAfter, lineHappenings, lineRecords}
 use Rattle.reception.proofs.Cutting.{board-cut, records-cut, records-size, three-each, sum-over-line}
-use Rattle.link.specs.Refusals.{rising, openNumber, commandNumber}
+use Rattle.link.specs.Refusals.{openNumber, commandNumber}
+use Rattle.link.specs.Tables.{rising}
 use Rattle.input.specs.Refusals.{receiveFaults, receiveNumber}
 use Rattle.link.specs.declared.commands.CommandCode.{CommandCode}
 use Rattle.link.specs.declared.commands.CommandCode.the-variants.{MonitorOff, StartFailure, StartAlignment, MustHandOver, CountOctets, Unknown}

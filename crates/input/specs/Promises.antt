@@ -8,7 +8,8 @@ use Rattle.board.specs.Limits.{recordOctets}
 use Rattle.board.specs.declared.Settings.{Settings}
 use Rattle.board.specs.declared.Link.{Link}
 use Rattle.units.specs.Promises.{Sums}
-use Rattle.link.specs.Refusals.{rising, openNumber}
+use Rattle.link.specs.Refusals.{openNumber}
+use Rattle.link.specs.Tables.{rising}
 use Rattle.input.specs.Refusals.{receiveFaults, receiveNumber}
 use Rattle.link.specs.Calls.{openAnswer, commandAnswer}
 use Rattle.input.specs.Receive.{ReceiveOutcome, receiveAnswer}

@@ -71,7 +71,7 @@ fn read_some(link: Link, pool: &mut [u8], descriptors: &mut [u16]) -> Session {
     pass_all(link, &buffer[..n], pool, descriptors)
 }
 
-// A proved loop has to end, and nothing says that the input does: the turns are counted down from a number that no run uses up.
+// A proved loop has to end, and nothing says that the input does: the reads are counted down from a number that no run uses up.
 fn run(link: Link, pool: &mut [u8], descriptors: &mut [u16]) {
     let mut t = Session {
         more: true,

@@ -7,7 +7,8 @@ use native.Mathlib.Omega.{arith}
 use lib.Dec.{ltb}
 use borrow.Author.Tests.{ltb-true, not-true}
 use Rattle.board.proofs.Ranges.{both}
-use Rattle.link.specs.Refusals.{Fault, fault, first, noneFound, rising}
+use Rattle.link.specs.Refusals.{Fault, fault, first}
+use Rattle.link.specs.Tables.{noneFound, rising}
 use Rattle.link.specs.Promises.{FirstFault, NoFault, TablesRise}
 
 -- where no fault is found, neither the first is, nor one of the rest

@@ -8,7 +8,8 @@ use Rattle.memory.specs.Lent.{zeros}
 use Rattle.board.specs.declared.Settings.{Settings}
 use Rattle.board.specs.declared.Link.{Link}
 use Rattle.board.specs.Link.{newLink}
-use Rattle.link.specs.Refusals.{Fault, fault, first, noneFound, rising, openFaults, commandFaults, readFaults, openNumber, commandNumber, readNumber}
+use Rattle.link.specs.Refusals.{Fault, fault, first, openFaults, commandFaults, readFaults, openNumber, commandNumber, readNumber}
+use Rattle.link.specs.Tables.{noneFound, rising}
 use Rattle.link.specs.Calls.{outcome, openAnswer, wipeAnswer, commandAnswer, readPart, handAnswer}
 
 -- D1.2: in a table of rising numbers a fault's number is given exactly if that fault is found and none before it,

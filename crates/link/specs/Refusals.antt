@@ -24,16 +24,6 @@ unfoldable pub first : List Fault → ℕ
 first [] = 0
 first (f ∷ fs) = cond (f .found) (f .number) (first fs)
 
--- none of these faults is found
-unfoldable pub noneFound : List Fault → Bool
-noneFound [] = true
-noneFound (f ∷ fs) = not (f .found) && noneFound fs
-
--- "in rising number", from above n
-unfoldable pub rising : ℕ → List Fault → Bool
-rising n [] = true
-rising n (f ∷ fs) = ltb n (f .number) && rising (f .number) fs
-
 -- "pool [..] exactly 280K octets [and] descriptors [..] 2K words"
 unfoldable pub fitsMemory : Format → ℕ → List ℕ → List ℕ → Bool
 fitsMemory F k pool descriptors = eqb (length pool) (F .slot * k) && eqb (length descriptors) (2 * k)

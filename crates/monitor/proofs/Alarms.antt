@@ -17,7 +17,8 @@ use Rattle.monitor.specs.declared.Alarm.the-variants.{Nothing, Suer, Aer
 use Rattle.monitor.specs.declared.Monitor.{Monitor}
 use Rattle.monitor.specs.declared.Limits.{Limits}
 use Rattle.monitor.specs.declared.Stepped.{Stepped}
-use Rattle.monitor.specs.Monitor.{started, failing, aligning, step, monitorAfter, alarms}
+use Rattle.monitor.specs.Monitor.{started, failing, aligning, step}
+use Rattle.monitor.specs.History.{monitorAfter, alarms}
 use Rattle.monitor.specs.Stretch.{Rule, decayPoint, failures, alignments, First}
 use Rattle.monitor.specs.Promises.{alarmAt, SuerExactly, AermExactly, FailureNeverAerm, AlignmentNeverSuer, OffOrIdleStays}
 use Rattle.monitor.proofs.Steps.{step-failing, step-aligning, step-off-or-idle}

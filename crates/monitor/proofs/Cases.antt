@@ -9,7 +9,8 @@ use lib.ListN.{length, replicate}
 use Rattle.monitor.specs.declared.Mode.the-variants.{Failure}
 use Rattle.monitor.specs.declared.Alarm.{Alarm}
 use Rattle.monitor.specs.declared.Alarm.the-variants.{Nothing, Suer}
-use Rattle.monitor.specs.Monitor.{monitorOf, started, gives, step, alarms}
+use Rattle.monitor.specs.Monitor.{monitorOf, started, gives, step}
+use Rattle.monitor.specs.History.{alarms}
 use Rattle.monitor.specs.Promises.{limitsOf, P8, P9, P10, P11}
 use Rattle.monitor.proofs.Alarms.{off-or-idle-stays}
 

@@ -8,7 +8,8 @@ use native.Mathlib.Omega.{arith}
 use lib.ListN.{length, List·getD-eq-default}
 use Rattle.monitor.specs.declared.Mode.the-variants.{Failure}
 use Rattle.monitor.specs.declared.Alarm.the-variants.{Suer}
-use Rattle.monitor.specs.Monitor.{step, alarms}
+use Rattle.monitor.specs.Monitor.{step}
+use Rattle.monitor.specs.History.{alarms}
 use Rattle.monitor.specs.Stretch.{errored, failures, total, First}
 use Rattle.monitor.specs.Promises.{alarmAt, limitsOf, AllErrored, SixtyFive, SixtyFiveAlarm, SixtyFourPass}
 use Rattle.monitor.proofs.Reflected.{first-exists}

@@ -8,7 +8,8 @@ use Rattle.monitor.specs.declared.Mode.the-variants.{Failure, Alignment}
 use Rattle.monitor.specs.declared.Alarm.the-variants.{Nothing}
 use Rattle.monitor.specs.declared.Monitor.{Monitor}
 use Rattle.monitor.specs.declared.Limits.{Limits}
-use Rattle.monitor.specs.Monitor.{gives, failing, aligning, OffOrIdle, step}
+use Rattle.monitor.specs.Monitor.{gives, failing, aligning, step}
+use Rattle.monitor.specs.History.{OffOrIdle}
 
 module _ (l : Limits) (m : Monitor) (e : Bool) where
   pub step-failing : m .mode ≡ Failure → step l m e ≡ failing (l .t) (l .d) (m .count + worth e) (m .number)

@@ -1,12 +1,8 @@
 -- The error monitors, as document 01's paragraph "Monitor" has them.
 use Prim.Native.Nat.{ℕ, _+_, _-_}
-use mathlib.Core.Path.{_≡_}
-use mathlib.Core.Logic.{_⊎_}
 use mathlib.Core.Bool.{Bool, true, false, cond}
-use mathlib.Core.List.{List, [], _∷_}
 use lib.Dec.{eqb, leb}
 use Rattle.bits.specs.Octets.{worth}
-use Rattle.bits.specs.Machine.{run, outs}
 use Rattle.monitor.specs.declared.Mode.{Mode}
 use Rattle.monitor.specs.declared.Mode.the-variants.{Off, Failure, Alignment, Idle}
 use Rattle.monitor.specs.declared.Alarm.{Alarm}
@@ -41,25 +37,14 @@ failing T D c n =
 abbrev pub aligning : ℕ → ℕ → ℕ → Stepped
 aligning A c n = cond (leb A c) (gives (monitorOf Idle c n) Aerm) (gives (monitorOf Alignment c n) Nothing)
 
--- a monitor that counts nothing: "Idle and off count nothing."
-abbrev pub OffOrIdle : Monitor → Type 0
-OffOrIdle m = (m .mode ≡ Off) ⊎ (m .mode ≡ Idle)
-
 abbrev pub byMode : Mode → Stepped → Stepped → Stepped → Stepped
 byMode Failure f a q = f
 byMode Alignment f a q = a
 byMode Idle f a q = q
 byMode Off f a q = q
 
--- one event, errored or not
+-- one event, errored or not; "Idle and off count nothing."
 unfoldable pub step : Limits → Monitor → Bool → Stepped
 step l m e =
     let c = m .count + worth e in
     byMode (m .mode) (failing (l .t) (l .d) c (m .number)) (aligning (l .a) c (m .number)) (gives m Nothing)
-
--- the monitor after events, oldest first, and the alarm at each of them
-unfoldable pub monitorAfter : Limits → Monitor → List Bool → Monitor
-monitorAfter l = run (λ m e. step l m e .monitor)
-
-unfoldable pub alarms : Limits → Monitor → List Bool → List Alarm
-alarms l = outs (λ m e. step l m e .monitor) (λ m e. step l m e .alarm ∷ [])

@@ -12,7 +12,8 @@ use Rattle.monitor.specs.declared.Alarm.{Alarm}
 use Rattle.monitor.specs.declared.Alarm.the-variants.{Nothing, Suer, Aerm}
 use Rattle.monitor.specs.declared.Monitor.{Monitor}
 use Rattle.monitor.specs.declared.Limits.{Limits}
-use Rattle.monitor.specs.Monitor.{started, OffOrIdle, monitorAfter, alarms}
+use Rattle.monitor.specs.Monitor.{started}
+use Rattle.monitor.specs.History.{OffOrIdle, monitorAfter, alarms}
 use Rattle.monitor.specs.Stretch.{Rule, errored, failures, alignments, Reaches, First, tested}
 
 -- ---- The law of the reflected count

@@ -6,7 +6,7 @@ use mathlib.Core.List.{List, [], _∷_, _++_, append-assoc, append-nil}
 use native.Mathlib.Omega.{arith}
 use lib.ListN.{length, length-append}
 use Rattle.bits.specs.Octets.{bitsOf, lineBits}
-use Rattle.bits.specs.Machine.{run-append, outs-append}
+use Rattle.bits.proofs.Machines.{run-append, outs-append}
 use Rattle.bits.proofs.Digits.{length-bitsOf}
 use Rattle.bits.proofs.Lines.{line-append, line-cons}
 use Rattle.framing.specs.Delimitation.{Receiver, Finding, closed, flagged, stepBit, next, finds, receiverAfter, findings}

@@ -12,7 +12,8 @@ use lib.ListN.{length}
 use Rattle.bits.specs.Format.{basic}
 use Rattle.memory.specs.declared.Status.the-variants as statuses
 use Rattle.bits.specs.Octets.{bitsOf, lineBits}
-use Rattle.bits.specs.Machine.{outs, outs-append}
+use Rattle.bits.specs.Machine.{outs}
+use Rattle.bits.proofs.Machines.{outs-append}
 use Rattle.framing.specs.Delimitation.{Receiver, Finding, closed, next, finds, findings}
 use Rattle.sending.specs.Stuffing.{unitBits}
 use Rattle.sending.proofs.Sent.{sent-good, sent-octets}
@@ -117,7 +118,7 @@ pub record Handed (s : Settings) (o : UnitMemory) (ms : List Indication) (cs : L
 
 no-tick : (due on : Bool) (h : Happening) → on ≡ false → ticks due on h ≡ []
 no-tick true on h e = rw e
-no-tick false on h e = rw e
+no-tick false on h e = refl
 
 module _ (s : Settings) (off : s .filter ≡ false) where
   pub all-handed : (ms : List Indication) (cs : List (List ℕ)) (o : UnitMemory) → AllAllowed (s .m) cs → Free (s .k) (length cs) (ringOf o)

@@ -6,7 +6,7 @@ use mathlib.Core.List.{List, [], _∷_, _++_, map, append-nil}
 use native.Mathlib.Omega.{arith}
 use borrow.Author.Tests.{le-ltb, ne-eqb}
 use lib.ListN.{length, replicate, length-append, length-replicate}
-use Rattle.bits.specs.Machine.{run-append, outs-append}
+use Rattle.bits.proofs.Machines.{run-append, outs-append}
 use Rattle.framing.specs.Delimitation.{Receiver, Finding, closed, newReceiver, flagged, inside, stepBit, next, finds, receiverAfter, findings}
 use Rattle.sending.specs.Stuffing.{stuffed, flag, unitBits, unitLine}
 use Rattle.sending.specs.Stream.{flags, unitsLine, streamLine}

@@ -10,7 +10,8 @@ use Rattle.bits.specs.Format.{basic}
 use Rattle.memory.specs.declared.Status.the-variants as statuses
 use Rattle.board.specs.Limits.{monitorLimits}
 use Rattle.bits.specs.Octets.{lineBits}
-use Rattle.bits.specs.Machine.{run, outs-append}
+use Rattle.bits.specs.Machine.{run}
+use Rattle.bits.proofs.Machines.{outs-append}
 use Rattle.bits.proofs.Lines.{line-append}
 use Rattle.framing.specs.Delimitation.{Receiver, Finding, closed, next, finds, receiverAfter, findings}
 use Rattle.framing.specs.Representation.{decode}

@@ -1,4 +1,4 @@
--- A line that is read with slots handed back between the calls. The proofs are in proofs/Turns.antt.
+-- A line that is read with slots handed back between the calls. The proofs are in proofs/Rounds.antt.
 use Prim.Native.Nat.{ℕ, _≤_, _<_}
 use mathlib.Core.Path.{_≡_}
 use mathlib.Core.Bool.{Bool, false}

@@ -7,7 +7,7 @@ use lib.ListN.{length, take, getD, length-append}
 use lib.Seq.{length-take-le, take-suc, take-length}
 use Rattle.board.specs.InnerRanges.{SettingsInRange}
 use Rattle.board.specs.Limits.{recordOctets, recordRoom, monitorLimits}
-use Rattle.bits.specs.Machine.{run-append, outs-append}
+use Rattle.bits.proofs.Machines.{run-append, outs-append}
 use Rattle.framing.specs.declared.Line.{Line}
 use Rattle.framing.specs.Delimitation.{Receiver}
 use Rattle.framing.specs.Representation.{decode}

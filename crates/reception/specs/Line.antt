@@ -1,4 +1,4 @@
--- A run of line octets: the receiver gives indications, the unit state happenings, the supervision records.
+-- A run of line octets: the receiver gives indications, what deals with units happenings, and supervision records.
 use Prim.Native.Nat.{ℕ}
 use mathlib.Core.List.{List}
 use Rattle.board.specs.Limits.{monitorLimits}

@@ -7,7 +7,7 @@ use lib.ListN.{length, getD, length-append}
 use lib.Seq.{sets, getD-append-add}
 use Rattle.board.specs.Limits.{recordOctets}
 use Rattle.bits.specs.Octets.{worth}
-use Rattle.bits.specs.Machine.{run-append, outs-append}
+use Rattle.bits.proofs.Machines.{run-append, outs-append}
 use Rattle.monitor.specs.declared.Limits.{Limits}
 use Rattle.records.specs.declared.Happening.{Happening}
 use Rattle.board.specs.declared.Supervision.{Supervision}

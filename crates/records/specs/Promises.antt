@@ -1,4 +1,4 @@
--- What is promised of happenings and their records. The proofs are in proofs/Watching.antt and proofs/Range.antt.
+-- What is promised of happenings and their records. The proofs are in proofs/Supervising.antt and proofs/Range.antt.
 use Prim.Native.Nat.{ℕ, _+_, _*_, _≤_, _<_}
 use mathlib.Core.Path.{_≡_}
 use mathlib.Core.Bool.{Bool, false}

@@ -21,14 +21,14 @@ recordOf h count raised =
     (kindNumber (h .kind) ∷ worth (h .lost) ∷ [])
     ++ (low-high (h .length) ++ (low-high count ++ (low-high (h .good) ++ (h .first ++ (worth raised ∷ 0 ∷ 0 ∷ [])))))
 
--- the supervision after a happening, and its record
+-- monitor and event bits after a happening, and its record
 abbrev pub supervised : Limits → Supervision → Happening → Supervision
 supervised l w h = noted l w h .supervision
 
 abbrev pub recorded : Limits → Supervision → Happening → List ℕ
 recorded l w h = recordOf h (noted l w h .supervision .monitor .count) (noted l w h .raised)
 
--- the supervision after happenings, and their records
+-- monitor and event bits after happenings, and their records
 unfoldable pub supervisionAfter : Limits → Supervision → List Happening → Supervision
 supervisionAfter l = run (supervised l)
 

@@ -40,7 +40,7 @@ pub struct Happening {
     pub bits: u16,
 }
 
-// What a happening leaves: the supervision, and whether it raised SUER or AERM.
+// What a happening leaves: monitor and event bits, and whether it raised SUER or AERM.
 pub struct Noted {
     pub supervision: Supervision,
     pub raised: bool,

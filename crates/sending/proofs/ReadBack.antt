@@ -9,7 +9,7 @@ use borrow.Author.Tests.{le-ltb, ne-eqb, eqb-true}
 use lib.Dec.{eqb}
 use lib.ListN.{length, take, replicate, length-append}
 use lib.Seq.{append-snoc, take-append-seam}
-use Rattle.bits.specs.Machine.{run-append, outs-append}
+use Rattle.bits.proofs.Machines.{run-append, outs-append}
 use Rattle.bits.proofs.Digits.{snoc-length}
 use Rattle.framing.specs.Delimitation.{Receiver, Finding, closed, inside, flagged, unit, gather, stepBit, next, finds, receiverAfter, findings}
 use Rattle.sending.specs.Stuffing.{onesAfter, zeroAfter, stuffed, onesOver, onLine}

@@ -7,7 +7,7 @@ use native.Mathlib.Omega.{arith}
 use borrow.Author.Tests.{le-ltb, eq-eqb}
 use lib.ListN.{length}
 use Rattle.bits.specs.Octets.{lineBits, wholeOctets, Octets}
-use Rattle.bits.specs.Machine.{run-append, outs-append}
+use Rattle.bits.proofs.Machines.{run-append, outs-append}
 use Rattle.bits.specs.Format.{fillInOctets}
 use Rattle.bits.proofs.Lines.{octets-append}
 use Rattle.bits.proofs.Whole.{whole-line}

@@ -6,7 +6,7 @@ use mathlib.Core.List.{List, [], _∷_, _++_}
 use native.Mathlib.Omega.{arith}
 use lib.ListN.{length, length-append}
 use Rattle.bits.specs.Octets.{lineBits, wholeOctets}
-use Rattle.bits.specs.Machine.{run-append, outs-append}
+use Rattle.bits.proofs.Machines.{run-append, outs-append}
 use Rattle.bits.proofs.Lines.{length-lineBits}
 use Rattle.bits.proofs.Whole.{length-whole}
 use Rattle.fcs.specs.Check.{checkOctets}

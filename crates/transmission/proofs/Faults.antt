@@ -1,6 +1,6 @@
 -- The refusals of send and fill.
 use mathlib.Core.Path.{refl}
-use Rattle.link.specs.Refusals.{rising}
+use Rattle.link.specs.Tables.{rising}
 use Rattle.link.proofs.Answers.{refused}
 use Rattle.output.specs.Output.{sendAnswer, fillAnswer}
 use Rattle.transmission.specs.Promises.{OutputRises, RefusedSend, RefusedFill}

@@ -11,7 +11,7 @@ use Rattle.sending.specs.Stream.{streamLine}
 use Rattle.board.specs.declared.Settings.{Settings}
 use Rattle.board.specs.declared.Link.{Link}
 use Rattle.board.specs.Promises.{Sized}
-use Rattle.link.specs.Refusals.{rising}
+use Rattle.link.specs.Tables.{rising}
 use Rattle.link.specs.Calls.{openedLink, openAnswer}
 use Rattle.output.specs.Refusals.{sendFaults, fillFaults, sendNumber, fillNumber}
 use Rattle.output.specs.Output.{firstFlag, notSent, sendAnswer, fillAnswer}

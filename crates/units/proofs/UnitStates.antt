@@ -9,7 +9,7 @@ use lib.Dec.{eqb}
 use lib.ListN.{length}
 use Rattle.bits.specs.Octets.{wholeOctets}
 use Rattle.bits.specs.Format.{basic}
-use Rattle.bits.specs.Machine.{run-append, outs-append}
+use Rattle.bits.proofs.Machines.{run-append, outs-append}
 use Rattle.bits.proofs.Whole.{length-whole}
 use Rattle.framing.specs.declared.Verdict.{Verdict}
 use Rattle.framing.specs.declared.Verdict.the-variants.{Short, NotWhole, CheckWrong, Good}

@@ -1,4 +1,4 @@
--- What is promised of the unit state. The proofs are in proofs/Desks.antt.
+-- What is promised of the unit state. The proofs are in proofs/UnitStates.antt.
 use Prim.Native.Nat.{ℕ, _+_, _*_, _%_, _≤_}
 use mathlib.Core.Path.{_≡_}
 use mathlib.Core.List.{List, _++_}

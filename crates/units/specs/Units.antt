@@ -1,6 +1,6 @@
 -- "What happens to a closed unit, in order", and octet counting: the front end, which gives happenings and never looks at the monitor.
 use Prim.Native.Nat.{ℕ, _+_, _-_, _%_, _^_}
-use mathlib.Core.Bool.{Bool, true, false, _||_, cond}
+use mathlib.Core.Bool.{Bool, true, false, _&&_, _||_, cond}
 use mathlib.Core.List.{List, [], _∷_, _++_}
 use lib.Dec.{eqb}
 use lib.ListN.{length, take}
@@ -152,10 +152,7 @@ abbrev pub tickOf : ℕ → Happening
 tickOf good = record { kind = kinds.Tick; lost = false; length = 0; first = 0 ∷ 0 ∷ 0 ∷ 0 ∷ 0 ∷ []; good = good; event = true; errored = true; bits = eventBit events.OctetTick }
 
 abbrev pub ticks : Bool → Bool → Happening → List Happening
-ticks true true h = h ∷ []
-ticks true false h = []
-ticks false true h = []
-ticks false false h = []
+ticks due on h = cond (due && on) (h ∷ []) []
 
 unfoldable pub octetEffect : Settings → UnitMemory → Effect
 octetEffect s o =

@@ -6,7 +6,7 @@ use native.Mathlib.Omega.{arith}
 use borrow.Author.Needs.{needs}
 use lib.ListN.{length, drop, getD, drop-of-length-le}
 use Rattle.bits.specs.Octets.{bitsOf, lineBits}
-use Rattle.bits.specs.Machine.{run-append}
+use Rattle.bits.proofs.Machines.{run-append}
 use Rattle.bits.proofs.Lines.{line-drop}
 use Rattle.fcs.specs.Check.{checkBit, checkBits, checkOf}
 use Rattle.fcs.proofs.check.Statement.{statement}

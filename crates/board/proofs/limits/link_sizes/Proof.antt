@@ -1,6 +1,6 @@
 -- `board::limits::link_sizes` meets its contract: the constants are the definitions' numbers.
 use mathlib.Core.Path.{refl}
-use Rattle.board.specs.Limits.{sizesOf}
+use Rattle.board.specs.Sizes.{sizesOf}
 use borrow.Author.Needs.{needs}
 use Rattle.board.proofs.limits.link_sizes.Statement.{statement}
 use Rattle.board.proofs.limits.link_sizes.Tie as tie
