@@ -8,7 +8,7 @@ use native.Mathlib.Numerals.{add-one, one-add}
 use native.Mathlib.Omega.{arith}
 use lib.ListN.{length, take, length-append}
 use lib.Seq.{take-all}
-use lib.Pow.{pow-lt, shr-shr, field, mod-mod-pow, high, low}
+use lib.Pow.{pow-lt, shr-shr, field, mod-mod-pow}
 use lib.Dec.{eqb}
 use borrow.Author.Tests.{eq-eqb, ne-eqb}
 use Rattle.bits.specs.Octets.{odd, bitsOf, worth, octetOf}

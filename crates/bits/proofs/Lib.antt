@@ -7,3 +7,4 @@ pub mod Whole
 pub mod Writing
 pub mod Typed
 pub mod Machines
+pub mod Tests

@@ -1,7 +1,7 @@
 -- A closed link is malformed exactly if it isn't the new link.
 use Prim.Native.Nat.{ℕ, zero, suc}
 use mathlib.Core.Path.{_≡_, refl, sym, ap, _∙_}
-use mathlib.Core.Bool.{Bool, true, false, not, _&&_, false≢true}
+use mathlib.Core.Bool.{true, false, not, false≢true}
 use mathlib.Core.List.{List, [], _∷_}
 use lib.Dec.{eqb}
 use lib.ListN.{length, getD, replicate}
@@ -11,9 +11,10 @@ use Rattle.monitor.specs.declared.Mode.{Mode}
 use Rattle.monitor.specs.declared.Mode.the-variants.{Off, Failure, Alignment, Idle}
 use Rattle.board.specs.declared.Link.{Link}
 use Rattle.board.specs.Link.{newLink, clearArea}
-use Rattle.board.specs.Malformed.{isOff, numbers, arraysZero, isNew, malformed}
+use Rattle.board.specs.Malformed.{isOff, numbers, isNew}
 use Rattle.board.specs.Promises.{Sized, NewExactly}
-use Rattle.board.proofs.Ranges.{both, when-closed}
+use Rattle.board.proofs.Ranges.{when-closed}
+use Rattle.bits.proofs.Tests.{both}
 
 zeros-are : (xs : List ℕ) → zeros xs ≡ true → xs ≡ replicate (length xs) 0
 unfolding zeros

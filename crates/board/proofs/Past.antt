@@ -1,6 +1,6 @@
 -- Octets that are zero past their first bits.
 use Prim.Native.Nat.{ℕ, zero, suc, _+_, _-_, _*_, _/_, _%_, _^_, _≤_, _<_}
-use mathlib.Core.Path.{_≡_, refl, sym, ap, ap₂, _∙_}
+use mathlib.Core.Path.{_≡_, refl, sym, ap, _∙_}
 use mathlib.Core.Bool.{Bool, true, false, not, _&&_, false≢true}
 use mathlib.Core.List.{List, [], _∷_, _++_, append-nil}
 use native.Mathlib.Nat.{pow-suc, sub-zero, div-lt-iff-lt-mul}
@@ -11,7 +11,7 @@ use lib.ListN.{length, getD, take, drop, length-drop, drop-of-length-le, take-ap
 use lib.Seq.{append-snoc, take-all, drop-nil, drop-at}
 use lib.Pow.{pow-add, pow-pos, pow-lt}
 use borrow.Author.Tests.{eq-eqb, ne-eqb, eqb-true, eqb-false}
-use Rattle.bits.specs.Octets.{odd, bitsOf, lineBits, octetOf, packed, Octets}
+use Rattle.bits.specs.Octets.{odd, bitsOf, lineBits, octetOf, packed}
 use Rattle.bits.proofs.Digits.{length-bitsOf, bits-more, octetOf-lt}
 use Rattle.bits.proofs.Lines.{line-drop}
 use Rattle.bits.proofs.Packing.{repack}

@@ -1,20 +1,20 @@
 -- Settings in range and open links that are not malformed, as tests and as facts.
-use Prim.Native.Nat.{ℕ, _+_, _*_, _≤_, _<_}
+use Prim.Native.Nat.{ℕ, _+_, _*_, _≤_}
 use mathlib.Core.Path.{_≡_, refl, sym, ap, _∙_}
-use mathlib.Core.Bool.{Bool, true, false, not, _&&_, _||_, false≢true, cond}
-use mathlib.Core.List.{List, [], _∷_}
+use mathlib.Core.Bool.{Bool, true, false, not, _&&_, false≢true, cond}
 use native.Mathlib.Omega.{arith}
-use lib.Dec.{leb, ltb}
+use lib.Dec.{ltb}
 use borrow.Author.Tests.{leb-true, leb-false, le-leb, lt-leb, ltb-false, le-ltb, not-false}
+use Rattle.bits.proofs.Tests.{both, neither, both-true, both-false}
 use Rattle.bits.specs.Format.{basic}
 use Rattle.monitor.specs.declared.Mode.{Mode}
 use Rattle.monitor.specs.declared.Mode.the-variants.{Off, Failure, Alignment, Idle}
 use Rattle.board.specs.declared.Settings.{Settings}
 use Rattle.board.specs.declared.Link.{Link}
 use Rattle.board.specs.Limits.{mostCount}
-use Rattle.board.specs.InnerRanges.{SettingsInRange, countInRange, MonitorInRange, WellFormed}
+use Rattle.board.specs.InnerRanges.{SettingsInRange, countInRange, WellFormed}
 use Rattle.board.specs.Promises.{RangesExactly, WellFormedExactly}
-use Rattle.board.specs.Malformed.{zeroPast, within, inRange, lineOut, counterOut, countOut, monitorOut, transmitterOut, openMalformed, isNew, malformed}
+use Rattle.board.specs.Malformed.{within, inRange, lineOut, counterOut, countOut, monitorOut, transmitterOut, openMalformed, isNew, malformed}
 
 pub when-open : (l : Link) → l .opened ≡ true → malformed l ≡ openMalformed l
 unfolding malformed
@@ -23,21 +23,6 @@ when-open l e = ap (λ (b : Bool). cond b (openMalformed l) (not (isNew l))) e
 pub when-closed : (l : Link) → l .opened ≡ false → malformed l ≡ not (isNew l)
 unfolding malformed
 when-closed l e = ap (λ (b : Bool). cond b (openMalformed l) (not (isNew l))) e
-
--- ---- tests taken apart
-pub both : (a b : Bool) → a && b ≡ true → (a ≡ true) × (b ≡ true)
-both true b e = (refl, e)
-both false b e = absurd (false≢true e)
-
-pub neither : (a b : Bool) → a || b ≡ false → (a ≡ false) × (b ≡ false)
-neither true b e = absurd (false≢true (sym e))
-neither false b e = (refl, e)
-
-pub both-true : (a b : Bool) → a ≡ true → b ≡ true → a && b ≡ true
-both-true a b p q = rw (p, q)
-
-pub both-false : (a b : Bool) → a ≡ false → b ≡ false → a || b ≡ false
-both-false a b p q = rw (p, q)
 
 -- ---- the settings
 within-range : (least most n : ℕ) → within least most n ≡ true → (least ≤ n) × (n ≤ most)

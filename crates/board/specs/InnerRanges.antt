@@ -1,7 +1,7 @@
 -- What a link that is not malformed obeys, as facts for proofs.
 use Prim.Native.Nat.{ℕ, _+_, _*_, _≤_, _<_}
 use mathlib.Core.Path.{_≡_}
-use mathlib.Core.Bool.{Bool, true, false}
+use mathlib.Core.Bool.{true, false}
 use mathlib.Core.List.{[], _∷_}
 use Rattle.bits.specs.Format.{basic, leastLongest, mostLongest}
 use Rattle.monitor.specs.declared.Mode.{Mode}

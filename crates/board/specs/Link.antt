@@ -1,6 +1,6 @@
 -- "A new link is closed"; "a new link has R = 7 and hunts". Everything else of it is zero, empty or off.
 use Prim.Native.Nat.{ℕ}
-use mathlib.Core.Bool.{Bool, true, false}
+use mathlib.Core.Bool.{true, false}
 use mathlib.Core.List.{List, [], _∷_}
 use lib.ListN.{replicate}
 use Rattle.bits.specs.Format.{basic}

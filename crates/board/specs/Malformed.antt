@@ -10,7 +10,6 @@ use Rattle.memory.specs.Lent.{zeros}
 use Rattle.monitor.specs.declared.Mode.{Mode}
 use Rattle.monitor.specs.declared.Mode.the-variants.{Off, Failure, Alignment, Idle}
 use Rattle.monitor.specs.declared.Monitor.{Monitor}
-use Rattle.filter.specs.declared.Memory.{Memory}
 use Rattle.framing.specs.declared.Line.{Line}
 use Rattle.board.specs.declared.Settings.{Settings}
 use Rattle.board.specs.declared.Counting.{Counting}

@@ -1,6 +1,6 @@
 -- "The check is CRC-CCITT, generator x^16 + x^12 + x^5 + 1, lowest bit first, preset FFFF; a good unit leaves F0B8."
 use mathlib.Core.Bool.{Bool, true, false, not, Bool·beq}
-use mathlib.Core.List.{List, [], _∷_, _++_}
+use mathlib.Core.List.{List, [], _∷_}
 use Prim.Native.Nat.{ℕ, _+_, _-_, _/_, _%_, _^_}
 use lib.Bits.{bitXor}
 use Rattle.bits.specs.Octets.{odd, lineBits}

@@ -12,7 +12,8 @@ use Rattle.filter.specs.Memory.{drops}
 use Rattle.filter.specs.History.{FilterInput, good, command-4, memoryAfter}
 use Rattle.filter.specs.Predecessors.{isMessage, needs, row, droppedAfter, none, more, HadItsLike}
 use Rattle.filter.specs.Promises.{DroppedExactly, DroppedHadItsLike, LikeHandedOver}
-use Rattle.filter.proofs.Likeness.{both, alike-transitive}
+use Rattle.filter.proofs.Likeness.{alike-transitive}
+use Rattle.bits.proofs.Tests.{both}
 use Rattle.filter.proofs.Settling.{when-over, dropped-if}
 use Rattle.filter.proofs.Held.{tells, drops-as}
 

@@ -15,7 +15,8 @@ use Rattle.filter.specs.Memory.{emptyMemory, holdsLike, repeats, drops, 
 use Rattle.filter.specs.History.{FilterInput, good, command-4, memoryAfter}
 use Rattle.filter.specs.Predecessors.{isMessage, needs, row, droppedAfter}
 use Rattle.filter.proofs.UnitKinds.{not-none, lengths-differ}
-use Rattle.filter.proofs.Likeness.{both, equal-parts, alike-parts}
+use Rattle.filter.proofs.Likeness.{equal-parts, alike-parts}
+use Rattle.bits.proofs.Tests.{both}
 use Rattle.filter.proofs.Settling.{when-dropped, when-over, when-lost}
 use Rattle.filter.proofs.Histories.{memory-next}
 

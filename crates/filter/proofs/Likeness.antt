@@ -2,13 +2,14 @@
 use Prim.Native.Nat.{ℕ}
 use mathlib.Core.Path.{_≡_, refl, sym, ap, ap₂, _∙_}
 use mathlib.Core.Logic.{_↔_}
-use mathlib.Core.Bool.{Bool, true, false, _&&_}
+use mathlib.Core.Bool.{true, _&&_}
 use mathlib.Core.List.{List, [], _∷_}
 use native.Mathlib.Omega.{arith}
 use lib.Bits.{bitAnd}
 use lib.Dec.{eqb}
 use lib.ListN.{length, take, getD}
 use borrow.Author.Tests.{eqb-true, eq-eqb}
+use Rattle.bits.proofs.Tests.{both}
 use Rattle.filter.specs.Unit.{masked, same, alike}
 
 -- ---- five octets
@@ -21,11 +22,6 @@ of-five (a ∷ b ∷ c ∷ []) h = absurd (omega arith)
 of-five (a ∷ b ∷ c ∷ d ∷ []) h = absurd (omega arith)
 of-five (a ∷ b ∷ c ∷ d ∷ e ∷ []) h = refl
 of-five (a ∷ b ∷ c ∷ d ∷ e ∷ f ∷ xs) h = absurd (omega arith)
-
--- ---- tests on bits
-pub both : (a b : Bool) → a && b ≡ true → (a ≡ true) × (b ≡ true)
-both true b e = (refl, e)
-both false b e = (e, cc)
 
 -- ---- the mask
 -- only as many octets as the mask has are looked at

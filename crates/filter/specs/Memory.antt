@@ -1,13 +1,12 @@
 -- The filter by its memory.
 use Prim.Native.Nat.{ℕ}
-use mathlib.Core.Bool.{Bool, true, false, _&&_, cond}
-use mathlib.Core.List.{List, [], _∷_}
+use mathlib.Core.Bool.{Bool, false, _&&_, cond}
+use mathlib.Core.List.{List}
 use lib.Dec.{eqb}
 use lib.ListN.{length, replicate}
 use Rattle.bits.specs.Format.{Format, fillInOctets}
 use Rattle.filter.specs.declared.Kind.{Kind}
 use Rattle.filter.specs.declared.Kind.the-variants.{FillIn, LinkStatus, Message}
-use Rattle.filter.specs.declared.Fate.{Fate}
 use Rattle.filter.specs.declared.Fate.the-variants.{HandedOver, Dropped, Lost}
 use Rattle.filter.specs.declared.Memory.{Memory}
 use Rattle.filter.specs.declared.Settled.{Settled}

@@ -9,7 +9,7 @@ use lib.Dec.{eqb, ltb}
 use borrow.Author.Tests.{lt-ltb, le-ltb, eqb-true, eqb-false, ltb-true, ltb-false}
 use Rattle.bits.specs.Octets.{bitsOf}
 use Rattle.bits.proofs.Digits.{snoc-length, length-bitsOf}
-use Rattle.framing.specs.Delimitation.{Receiver, Finding, closed, abort, long, hunts, inside, flagged, unit, gather, flag, stepBit, next, finds, findings}
+use Rattle.framing.specs.Delimitation.{Receiver, Finding, abort, hunts, unit, gather, flag, stepBit, next, finds, findings}
 use Rattle.framing.specs.Promises.{TwoFindings}
 
 -- the ones that a flag or an abort would use

@@ -1,10 +1,9 @@
 -- Reading bits up to a finding: its laws, and a turn of the loop.
 use Prim.Native.Nat.{ℕ, _≤_}
-use mathlib.Core.Path.{_≡_, refl, sym, ap, ap₂, subst, _∙_}
+use mathlib.Core.Path.{_≡_, refl, sym, ap, subst, _∙_}
 use mathlib.Core.Bool.{Bool, true, false, false≢true}
 use mathlib.Core.List.{List, [], _∷_, _++_}
 use native.Mathlib.Omega.{arith}
-use lib.ListN.{length}
 use Rattle.bits.specs.Octets.{bitsOf}
 use Rattle.framing.specs.declared.Line.{Line}
 use Rattle.framing.specs.declared.Found.{Found}

@@ -1,12 +1,12 @@
 -- Where a reading stops: one finding at most, just after a flag if a unit was closed, and nearer to the end.
 use Prim.Native.Nat.{ℕ, suc, _+_, _-_, _*_, _≤_, _<_, min}
-use mathlib.Core.Path.{_≡_, refl, sym, ap, _∙_}
+use mathlib.Core.Path.{_≡_, refl, _∙_}
 use mathlib.Core.Bool.{Bool, true, false, cond}
-use mathlib.Core.List.{List, [], _∷_, _++_}
+use mathlib.Core.List.{List, [], _∷_}
 use native.Mathlib.Omega.{arith}
-use lib.ListN.{length, take}
+use lib.ListN.{length}
 use lib.Dec.{eqb, ltb}
-use Rattle.framing.specs.Delimitation.{Receiver, Finding, closed, abort, long, hunts, inside, flagged, unit, gather, flag, stepBit, next, finds}
+use Rattle.framing.specs.Delimitation.{Receiver, Finding, closed, abort, long, hunts, flagged, gather, flag, stepBit, next, finds}
 use Rattle.framing.specs.InnerReading.{Reading, readOn, reading}
 use Rattle.framing.proofs.Bound.{finds-single}
 

@@ -1,7 +1,7 @@
 -- Each way out of the one-bit step, over plain values.
-use Prim.Native.Nat.{ℕ, zero, suc, _+_, _-_, _*_, _≤_, _<_, min}
-use mathlib.Core.Path.{_≡_, refl, sym, ap, ap₂, subst, _∙_}
-use mathlib.Core.Bool.{Bool, true, false, cond}
+use Prim.Native.Nat.{ℕ, _+_, _-_, _*_, _≤_, _<_, min}
+use mathlib.Core.Path.{_≡_, refl, sym, ap, ap₂, _∙_}
+use mathlib.Core.Bool.{Bool, true, false}
 use mathlib.Core.List.{List, [], _∷_, _++_}
 use native.Mathlib.Omega.{arith}
 use lib.ListN.{length, take}
@@ -15,9 +15,9 @@ use Rattle.framing.specs.declared.Line.{Line}
 use Rattle.framing.specs.declared.Found.{Found}
 use Rattle.framing.specs.declared.Found.the-variants.{Nothing, Closed, Abort, Long}
 use Rattle.framing.specs.declared.Step.{Step}
-use Rattle.framing.specs.Delimitation.{Receiver, Finding, closed, abort, long, hunts, inside, flagged, unit, gather, flag, stepBit}
+use Rattle.framing.specs.Delimitation.{hunts, inside, unit, gather, flag, stepBit}
 use Rattle.framing.specs.Representation.{lineOf, decode}
-use Rattle.framing.specs.InnerReading.{Holds, wellFormed, shows, unitIn, standing, Stepped}
+use Rattle.framing.specs.InnerReading.{Holds, wellFormed, shows, unitIn, Stepped}
 
 abbrev pub stepOf : Line → Found → Step
 stepOf l f = record { line = l; found = f }

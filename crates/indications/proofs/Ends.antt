@@ -1,6 +1,6 @@
 -- The end of a line octet: the tick, or none.
 use Prim.Native.Nat.{ℕ, _-_}
-use mathlib.Core.Path.{_≡_, refl, sym, ap, ap₂, _∙_}
+use mathlib.Core.Path.{_≡_, sym, ap, ap₂}
 use mathlib.Core.Bool.{Bool, true, false, cond}
 use mathlib.Core.List.{List, [], _∷_}
 use lib.Dec.{eqb}
@@ -8,9 +8,8 @@ use borrow.Author.Tests.{eq-eqb, ne-eqb}
 use Rattle.records.specs.declared.Happening.{Happening}
 use Rattle.board.specs.declared.Settings.{Settings}
 use Rattle.board.specs.declared.UnitState.{UnitState}
-use Rattle.units.specs.declared.Taken.{Taken}
 use Rattle.units.specs.Indications.{octetEnd}
-use Rattle.units.specs.Units.{UnitMemory, unitMemory, Effect, effect, unitStateOf, ticks, tickOf, octetEffect, effectOf}
+use Rattle.units.specs.Units.{unitMemory, effect, unitStateOf, ticks, tickOf, octetEffect, effectOf}
 use Rattle.indications.specs.declared.Progress.{Progress}
 use Rattle.indications.specs.InnerWriting.{holding, indicationsDone, NotedAndRecorded}
 use Rattle.indications.proofs.Recording.{indication-one, indication-quiet}

@@ -1,8 +1,7 @@
 -- One finding: what it does, way by way.
-use Prim.Native.Nat.{ℕ, zero, suc, _+_, _*_, _≤_, _<_}
-use mathlib.Core.Path.{_≡_, refl, sym, ap, ap₂, subst, _∙_}
-use mathlib.Core.Bool.{Bool, true, false}
-use mathlib.Core.List.{List, [], _∷_, _++_, map}
+use Prim.Native.Nat.{ℕ, _+_, _≤_}
+use mathlib.Core.Path.{_≡_, refl, sym, ap, subst, _∙_}
+use mathlib.Core.List.{List, [], _∷_, map}
 use native.Mathlib.Omega.{arith}
 use lib.ListN.{length, take}
 use Rattle.board.specs.Events.{eventBit}
@@ -13,11 +12,10 @@ use Rattle.framing.specs.declared.Found.{Found}
 use Rattle.framing.specs.declared.Found.the-variants.{Nothing, Closed, Abort, Long}
 use Rattle.framing.specs.Delimitation.{Finding, closed, abort, long}
 use Rattle.framing.specs.InnerReading.{shows, unitIn}
-use Rattle.board.specs.declared.Supervision.{Supervision}
 use Rattle.board.specs.declared.Settings.{Settings}
 use Rattle.units.specs.declared.Taken.{Taken}
-use Rattle.units.specs.Indications.{Indication, found}
-use Rattle.units.specs.Units.{UnitMemory, unitMemory, Effect, effect, closedUnit, broken, effectOf}
+use Rattle.units.specs.Indications.{found}
+use Rattle.units.specs.Units.{unitMemory, effect, closedUnit, broken, effectOf}
 use Rattle.indications.specs.declared.Progress.{Progress}
 use Rattle.indications.specs.InnerWriting.{CallState, holding, indicationsDone, NotedAndRecorded, Shown, StandsIn, areaAfter}
 use Rattle.indications.proofs.Recording.{indications-none, indication-one}

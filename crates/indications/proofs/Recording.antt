@@ -1,29 +1,26 @@
 -- Happenings noted and recorded one by one.
-use Prim.Native.Nat.{ℕ, zero, suc, _+_, _*_, _≤_, _<_}
-use mathlib.Core.Path.{_≡_, refl, sym, ap, ap₂, subst, _∙_}
-use mathlib.Core.Bool.{Bool, true, false}
+use Prim.Native.Nat.{ℕ, _+_, _*_}
+use mathlib.Core.Path.{_≡_, refl, sym, ap, ap₂, _∙_}
 use mathlib.Core.List.{List, [], _∷_, _++_, append-nil}
 use native.Mathlib.Nat.{add-zero}
 use native.Mathlib.Omega.{arith}
 use lib.ListN.{length, length-append}
-use lib.Seq.{sets, length-sets}
+use lib.Seq.{sets}
 use Rattle.board.specs.Limits.{recordOctets, monitorLimits}
 use Rattle.records.specs.declared.Happening.{Happening}
 use Rattle.board.specs.declared.Supervision.{Supervision}
 use Rattle.records.specs.declared.Noted.{Noted}
 use Rattle.records.specs.Happening.{noted}
 use Rattle.records.specs.Record.{recordOf, supervised, recorded, supervisionAfter, recordsOf}
-use Rattle.records.specs.Promises.{FirstFive, none, more}
+use Rattle.records.specs.Promises.{FirstFive}
 use Rattle.records.proofs.Supervising.{supervision-append, records-append, records-length}
-use Rattle.records.proofs.Range.{stays-in-range}
 use Rattle.bits.proofs.Writing.{sets-append}
 use Rattle.board.specs.declared.Settings.{Settings}
-use Rattle.board.specs.declared.UnitState.{UnitState}
 use Rattle.units.specs.declared.Taken.{Taken}
 use Rattle.units.specs.Indications.{Indication}
 use Rattle.units.proofs.UnitStates.{unit-memory-append, happenings-append}
 use Rattle.monitor.specs.declared.Limits.{Limits}
-use Rattle.units.specs.Units.{UnitMemory, unitMemory, Effect, effect, effectOf, nextUnitMemory, happens, unitMemoryAfter, happenings}
+use Rattle.units.specs.Units.{UnitMemory, unitMemory, Effect, effect, effectOf, unitMemoryAfter, happenings}
 use Rattle.indications.specs.declared.Progress.{Progress}
 use Rattle.indications.specs.InnerWriting.{CallState, holding, indicationsDone, NotedAndRecorded}
 

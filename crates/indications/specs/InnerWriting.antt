@@ -6,7 +6,6 @@ use lib.ListN.{length, take}
 use lib.Seq.{sets}
 use Rattle.board.specs.InnerRanges.{SettingsInRange, MonitorInRange}
 use Rattle.board.specs.Limits.{recordOctets, monitorLimits}
-use Rattle.monitor.specs.declared.Limits.{Limits}
 use Rattle.board.specs.declared.Supervision.{Supervision}
 use Rattle.records.specs.Record.{supervised, recorded, supervisionAfter, recordsOf}
 use Rattle.framing.specs.Delimitation.{Finding}

@@ -1,19 +1,15 @@
 -- Receive in one call or in two, and the sum that the good count is.
-use Prim.Native.Nat.{ℕ, zero, suc, _+_, _*_, _≤_}
+use Prim.Native.Nat.{ℕ, _+_, _*_, _≤_}
 use mathlib.Core.Path.{_≡_, refl, sym, ap, ap₂, subst, _∙_}
 use mathlib.Core.Bool.{Bool, true, false, cond}
-use mathlib.Core.List.{List, [], _∷_, _++_}
+use mathlib.Core.List.{List, [], _++_}
 use native.Mathlib.Omega.{arith}
 use lib.Dec.{eqb}
 use borrow.Author.Tests.{eqb-true, eqb-false}
 use lib.ListN.{length, take, drop}
-use lib.Seq.{sets, sets-eq, take-at}
+use lib.Seq.{sets-eq, take-at}
 use Rattle.board.specs.Limits.{recordOctets}
-use Rattle.bits.specs.Octets.{lineBits, packed}
 use Rattle.bits.proofs.Packing.{unpack}
-use Rattle.framing.specs.Delimitation.{Receiver}
-use Rattle.framing.specs.Representation.{decode, encode, encodeArea}
-use Rattle.board.specs.declared.Settings.{Settings}
 use Rattle.board.specs.declared.Link.{Link}
 use Rattle.records.specs.Record.{recordsOf}
 use Rattle.units.specs.Indications.{lineIndications}
@@ -21,13 +17,13 @@ use Rattle.units.specs.Units.{happenings}
 use Rattle.units.specs.Promises.{Sums}
 use Rattle.reception.specs.Line.{Board, boardAfter, lineHappenings, lineRecords}
 use Rattle.reception.proofs.Cutting.{board-cut, records-cut, records-size, three-each, sum-over-line}
-use Rattle.link.specs.Refusals.{openNumber, commandNumber}
+use Rattle.link.specs.Refusals.{commandNumber}
 use Rattle.link.specs.Tables.{rising}
-use Rattle.input.specs.Refusals.{receiveFaults, receiveNumber}
+use Rattle.input.specs.Refusals.{receiveNumber}
 use Rattle.link.specs.declared.commands.CommandCode.{CommandCode}
 use Rattle.link.specs.declared.commands.CommandCode.the-variants.{MonitorOff, StartFailure, StartAlignment, MustHandOver, CountOctets, Unknown}
 use Rattle.link.specs.Commands.{commandOf, obeyed}
-use Rattle.link.specs.Calls.{Outcome, openedLink, openAnswer, commandAnswer}
+use Rattle.link.specs.Calls.{Outcome, openAnswer, commandAnswer}
 use Rattle.link.specs.declared.Answer.{Answer}
 use Rattle.input.specs.Receive.{ReceiveOutcome, boardOf, linkOf, received, receiveAnswer}
 use Rattle.input.specs.Promises.{ReceiveRises, RefusedReceive, written, LineCut, SumAtOpen, SumKeptByReceive, SumKeptByCommand, NoOctets}

@@ -1,31 +1,26 @@
 -- How receive's answer is met: refused, or the octets are taken; and what no fault says.
-use Prim.Native.Nat.{ℕ, _+_, _*_, _/_, _≤_, _<_}
-use mathlib.Core.Path.{_≡_, refl, sym, ap, subst, _∙_}
-use mathlib.Core.Bool.{Bool, true, false, not}
+use Prim.Native.Nat.{ℕ, _*_, _/_, _≤_}
+use mathlib.Core.Path.{_≡_, refl, sym, ap, _∙_}
+use mathlib.Core.Bool.{Bool, true, false}
 use mathlib.Core.List.{List}
 use native.Mathlib.Nat.{zero-add}
 use native.Mathlib.Omega.{arith}
-use lib.Dec.{leb, ltb}
+use lib.Dec.{ltb}
 use lib.ListN.{length, take}
-use borrow.Author.Tests.{eqb-true, leb-false, ltb-true, ltb-false, lt-ltb, le-ltb, not-false}
-use Rattle.board.specs.Limits.{recordRoom, monitorLimits}
+use borrow.Author.Tests.{eqb-true, ltb-true, ltb-false, lt-ltb, le-ltb, not-false}
+use Rattle.board.specs.Limits.{recordRoom}
 use Rattle.bits.specs.Octets.{Octets, lineBits, packed}
-use Rattle.framing.specs.declared.Line.{Line}
 use Rattle.framing.specs.Delimitation.{Receiver}
 use Rattle.framing.specs.Representation.{decode, encode, encodeArea}
 use Rattle.framing.specs.InnerReading.{wellFormed}
 use Rattle.framing.proofs.Encoding.{encodes-back}
-use Rattle.monitor.specs.declared.Mode.{Mode}
-use Rattle.monitor.specs.declared.Mode.the-variants.{Off, Failure, Alignment, Idle}
-use Rattle.board.specs.declared.Settings.{Settings}
 use Rattle.board.specs.declared.Link.{Link}
 use Rattle.board.specs.With.{withReception}
-use Rattle.board.specs.Malformed.{malformed, countOut}
-use Rattle.board.proofs.Ranges.{both, well-formed}
+use Rattle.board.proofs.Ranges.{well-formed}
+use Rattle.bits.proofs.Tests.{both}
 use Rattle.board.specs.InnerRanges.{SettingsInRange, WellFormed}
 use Rattle.board.proofs.Past.{past-holds}
-use Rattle.units.specs.Indications.{lineReceiver, lineIndications}
-use Rattle.indications.specs.declared.Progress.{Progress}
+use Rattle.units.specs.Indications.{lineReceiver}
 use Rattle.reception.specs.declared.Passed.{Passed}
 use Rattle.indications.specs.InnerWriting.{CallState, holding, indicationsDone}
 use Rattle.reception.specs.Line.{boardAfter, lineHappenings, lineRecords}

@@ -1,24 +1,24 @@
 -- How a call's answer is met: refused, and done; and what no fault says.
-use Prim.Native.Nat.{ℕ, zero, suc, _+_, _-_, _*_, _≤_, _<_}
-use mathlib.Core.Path.{_≡_, refl, sym, ap, ap₂, _∙_}
-use mathlib.Core.Bool.{Bool, true, false, not, _&&_, _||_, cond}
-use mathlib.Core.List.{List, [], _∷_}
+use Prim.Native.Nat.{ℕ, _+_, _-_, _*_, _≤_, _<_}
+use mathlib.Core.Path.{_≡_, sym, ap, ap₂, _∙_}
+use mathlib.Core.Bool.{Bool, true, false, not, cond}
+use mathlib.Core.List.{List, []}
 use native.Mathlib.Omega.{arith}
-use lib.Dec.{eqb, leb, ltb}
+use lib.Dec.{eqb, ltb}
 use lib.ListN.{length, take, drop}
 use lib.Seq.{take-take}
 use borrow.Author.Tests.{eq-eqb, ne-eqb, eqb-true, leb-false, ltb-false, not-false}
 use Rattle.bits.specs.Format.{basic}
 use Rattle.memory.specs.declared.Status.the-variants as statuses
-use Rattle.memory.specs.Lent.{zeros, emptyDescriptors, statusOf, lengthOf, slotOf, withSlot, withDescriptor, emptySlot, statusWord}
+use Rattle.memory.specs.Lent.{zeros, emptyDescriptors, statusOf, lengthOf, withSlot, withDescriptor, emptySlot, statusWord}
 use Rattle.board.specs.declared.Settings.{Settings}
 use Rattle.board.specs.declared.Link.{Link}
 use Rattle.board.specs.Malformed.{inRange, malformed}
-use Rattle.board.proofs.Ranges.{both, neither}
+use Rattle.bits.proofs.Tests.{both, neither}
 use Rattle.link.specs.declared.Answer.{Answer}
 use Rattle.link.specs.Refusals.{isFilled, fitsMemory, openNumber, commandNumber, readNumber}
 use Rattle.link.specs.Commands.{commandOf, obeyed}
-use Rattle.link.specs.Calls.{Outcome, outcome, openedLink, openAnswer, commandAnswer, readPart, handAnswer}
+use Rattle.link.specs.Calls.{outcome, openedLink, openAnswer, commandAnswer, readPart, handAnswer}
 use Rattle.link.proofs.Faults.{none}
 
 cond-true : {A : Type 0} {b : Bool} (x y : A) → b ≡ true → cond b x y ≡ x

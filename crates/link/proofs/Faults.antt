@@ -6,7 +6,7 @@ use mathlib.Core.List.{List, [], _∷_, _++_, append-nil}
 use native.Mathlib.Omega.{arith}
 use lib.Dec.{ltb}
 use borrow.Author.Tests.{ltb-true, not-true}
-use Rattle.board.proofs.Ranges.{both}
+use Rattle.bits.proofs.Tests.{both}
 use Rattle.link.specs.Refusals.{Fault, fault, first}
 use Rattle.link.specs.Tables.{noneFound, rising}
 use Rattle.link.specs.Promises.{FirstFault, NoFault, TablesRise}

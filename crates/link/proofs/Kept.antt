@@ -1,23 +1,23 @@
 -- What the calls keep: refusals, the wipe, opening, handing back.
-use Prim.Native.Nat.{ℕ, _+_, _*_, _≤_, _<_}
-use mathlib.Core.Path.{_≡_, refl, sym, ap, subst, _∙_}
-use mathlib.Core.Bool.{Bool, true, false, not, _&&_, _||_}
-use mathlib.Core.List.{List, [], _∷_}
+use Prim.Native.Nat.{ℕ, _*_, _<_}
+use mathlib.Core.Path.{_≡_, refl, sym, ap, _∙_}
+use mathlib.Core.Bool.{Bool, true, false}
+use mathlib.Core.List.{List}
 use native.Mathlib.Omega.{arith}
-use lib.Dec.{eqb, leb, ltb}
-use lib.ListN.{length, replicate, length-replicate}
-use borrow.Author.Tests.{eq-eqb, lt-ltb, lt-leb, eqb-true, eqb-false}
+use lib.Dec.{eqb}
+use lib.ListN.{length, length-replicate}
+use borrow.Author.Tests.{eq-eqb, lt-leb, eqb-true}
 use Rattle.bits.specs.Format.{basic}
 use Rattle.memory.specs.declared.Status.the-variants as statuses
-use Rattle.memory.specs.Lent.{zeros, emptyDescriptors, statusOf, lengthOf, withSlot, withDescriptor, emptySlot, statusWord}
+use Rattle.memory.specs.Lent.{emptyDescriptors, statusOf, withSlot, withDescriptor, emptySlot, statusWord}
 use Rattle.memory.proofs.Slots.{wiped-zeros, pool-length, descriptor-written, descriptors-length}
 use Rattle.board.specs.declared.Settings.{Settings}
 use Rattle.board.specs.declared.Link.{Link}
 use Rattle.board.specs.Malformed.{malformed}
-use Rattle.link.specs.Refusals.{fault, first, fitsMemory, openNumber, commandNumber, readNumber}
-use Rattle.link.specs.Calls.{Outcome, outcome, openedLink, openAnswer, wipeAnswer, commandAnswer, readPart, handAnswer}
+use Rattle.link.specs.Refusals.{first, fitsMemory, openNumber, readNumber}
+use Rattle.link.specs.Calls.{Outcome, outcome, openedLink, openAnswer, commandAnswer, readPart, handAnswer}
 use Rattle.link.specs.Promises.{RefusedOpen, RefusedCommand, RefusedRead, RefusedHandBack, WipeLeavesNothing, OpensOnWiped, HandedBackIsEmpty}
-use Rattle.link.proofs.Answers.{done, refused, Openable, openable, Readable, readable}
+use Rattle.link.proofs.Answers.{done, refused, openable, readable}
 
 pub refused-open : RefusedOpen
 unfolding openAnswer

@@ -1,7 +1,7 @@
 -- What is promised of the calls on one link and its memory. The proofs are in proofs/Faults.antt and proofs/Kept.antt.
 use Prim.Native.Nat.{ℕ}
 use mathlib.Core.Path.{_≡_}
-use mathlib.Core.Bool.{Bool, true, false}
+use mathlib.Core.Bool.{Bool, true}
 use mathlib.Core.List.{List, [], _∷_, _++_}
 use mathlib.Core.Logic.{_↔_}
 use Rattle.memory.specs.Lent.{zeros}

@@ -1,7 +1,7 @@
 -- The laws of slots and descriptors that specs/Promises.antt states.
 use Prim.Native.Nat.{ℕ, zero, suc, _+_, _-_, _*_, _<_, _≤_}
 use mathlib.Core.Path.{_≡_, refl, sym, ap, ap₂, _∙_}
-use mathlib.Core.Bool.{Bool, true, false, cond, _&&_}
+use mathlib.Core.Bool.{Bool, true, false, cond}
 use mathlib.Core.List.{List, [], _∷_, _++_, append-assoc}
 use mathlib.Core.Logic.{_≢_}
 use native.Mathlib.Nat.{not-suc-le-zero, mul-suc, mul-le-mul-left}
@@ -11,6 +11,7 @@ use borrow.Author.Tests.{eqb-true, eqb-false}
 use lib.Dec.{eqb}
 use lib.ListN.{length, getD, take, drop, set, replicate, length-append, length-drop, length-set, length-replicate, take-append-drop}
 use lib.Seq.{length-take-le, take-append-le, take-append-seam, take-at, drop-append-le, drop-at, drop-drop, getD-set-same, getD-set-other}
+use Rattle.bits.proofs.Tests.{both}
 use Rattle.bits.specs.Format.{Format}
 use Rattle.memory.specs.Lent.{zeros, wiped, emptyDescriptors, slotOf, withSlot, withDescriptor, filled, emptySlot, nextSlot}
 use Rattle.memory.specs.Promises.{SlotWritten, SlotKept, PoolLength, DescriptorWritten, DescriptorKept, DescriptorsLength, EmptyLength, EmptyEach, ZerosExact, WipedZeros, EmptySlotLength, FilledLength, FilledFront, NextBelow}
@@ -131,10 +132,6 @@ zeros-replicate : (n : ℕ) → zeros (replicate n 0) ≡ true
 unfolding zeros
 zeros-replicate zero = refl
 zeros-replicate (suc n) = zeros-replicate n
-
-both : (a b : Bool) → a && b ≡ true → (a ≡ true) × (b ≡ true)
-both true b e = (refl, e)
-both false b e = (e, cc)
 
 all-zero : (xs : List ℕ) → zeros xs ≡ true → xs ≡ replicate (length xs) 0
 unfolding zeros

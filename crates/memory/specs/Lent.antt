@@ -1,6 +1,6 @@
 -- "The pool: K slots of 280 octets each; the descriptors, a lent run of 16-bit words, two for each slot: status, then length."
 use Prim.Native.Nat.{ℕ, zero, suc, _+_, _-_, _*_}
-use mathlib.Core.Bool.{Bool, true, false, cond, _&&_}
+use mathlib.Core.Bool.{Bool, true, cond, _&&_}
 use mathlib.Core.List.{List, [], _∷_, _++_}
 use lib.Dec.{eqb}
 use lib.ListN.{length, replicate, getD, take, drop, set}

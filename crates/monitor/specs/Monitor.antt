@@ -1,6 +1,6 @@
 -- The error monitors, as document 01's paragraph "Monitor" has them.
 use Prim.Native.Nat.{ℕ, _+_, _-_}
-use mathlib.Core.Bool.{Bool, true, false, cond}
+use mathlib.Core.Bool.{Bool, cond}
 use lib.Dec.{eqb, leb}
 use Rattle.bits.specs.Octets.{worth}
 use Rattle.monitor.specs.declared.Mode.{Mode}

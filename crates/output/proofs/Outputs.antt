@@ -21,7 +21,8 @@ use Rattle.sending.proofs.Stuffs.{unit-length}
 use Rattle.board.specs.declared.Transmitter.{Transmitter}
 use Rattle.board.specs.declared.Link.{Link}
 use Rattle.board.specs.Malformed.{zeroPast, noOnes}
-use Rattle.board.proofs.Ranges.{neither, well-formed}
+use Rattle.board.proofs.Ranges.{well-formed}
+use Rattle.bits.proofs.Tests.{neither}
 use Rattle.board.specs.InnerRanges.{WellFormed}
 use Rattle.board.proofs.Past.{part-above}
 use Rattle.link.specs.Refusals.{first}

@@ -5,8 +5,8 @@ use mathlib.Core.List.{List}
 use mathlib.Core.Logic.{_≢_}
 use native.Mathlib.Decide.{ℕ-discrete}
 use native.Mathlib.Omega.{arith}
-use borrow.Author.Tests.{le-ltb, lt-leb}
-use Rattle.bits.specs.Format.{basic}
+use borrow.Author.Tests.{lt-leb}
+use Rattle.bits.specs.Format.{basic, mostLongest}
 use Rattle.memory.specs.declared.Status.the-variants as statuses
 use Rattle.bits.specs.Machine.{run}
 use Rattle.memory.specs.Lent.{statusOf, lengthOf, withSlot, withDescriptor, emptySlot, statusWord}
@@ -18,12 +18,12 @@ use Rattle.link.proofs.Kept.{refused-hand-back}
 use Rattle.link.specs.Held.{Held, handedBack}
 use Rattle.readback.specs.Using.{InUse}
 use Rattle.readback.specs.OneByOne.{slotsOf}
-use Rattle.readback.proofs.Using.{lent}
+use Rattle.readback.proofs.Using.{lent, can-read}
 
 -- a slot that is empty, or holds a unit that can be handed back
 pub data Returnable (descriptors : List ℕ) (slot : ℕ) : Type 0 where
   empty : statusOf descriptors slot ≡ statusWord statuses.Empty → Returnable descriptors slot
-  full : statusOf descriptors slot ≡ 0 → lengthOf descriptors slot ≤ 278 → Returnable descriptors slot
+  full : statusOf descriptors slot ≡ statusWord statuses.Good → lengthOf descriptors slot ≤ mostLongest basic → Returnable descriptors slot
 
 -- what handing it back leaves: the slot is empty, every other as it was
 record Emptied (k slot : ℕ) (descriptors : List ℕ) (h : Held) : Type 0 where
@@ -52,18 +52,6 @@ module _ (h : Held) (slot : ℕ) (u : InUse h) (below : slot < h .link .settings
       (record { used = u; size = refl; this = e; others = λ t n. (refl, refl) })
 
   -- done
-  read-now : statusOf (h .descriptors) slot ≡ 0 → lengthOf (h .descriptors) slot ≤ 278 → readNumber (h .link) (h .pool) (h .descriptors) slot ≡ 0
-  unfolding readNumber first
-  read-now e s =
-      rw (
-        u .formed,
-        u .opened,
-        u .fits,
-        lt-leb k slot below,
-        e,
-        le-ltb 278 (lengthOf (h .descriptors) slot) s,
-      )
-
   abbrev then : Outcome
   then = outcome 0 (h .link) (withSlot basic (h .pool) slot (emptySlot basic)) (withDescriptor (h .descriptors) slot (statusWord statuses.Empty) 0)
 
@@ -92,7 +80,7 @@ module _ (h : Held) (slot : ℕ) (u : InUse h) (below : slot < h .link .settings
 
   one-back : Returnable (h .descriptors) slot → Emptied k slot (h .descriptors) (handedBack h slot)
   one-back (empty e) = kept e
-  one-back (full e s) = emptied (read-now e s)
+  one-back (full e s) = emptied (can-read h slot u below e s)
 
 -- ---- all slots
 still-returnable : (ds es : List ℕ) (slot : ℕ) → (statusOf es slot ≡ statusOf ds slot) × (lengthOf es slot ≡ lengthOf ds slot) → Returnable ds slot

@@ -6,11 +6,12 @@ use mathlib.Core.List.{List, [], _∷_}
 use native.Mathlib.Omega.{arith}
 use lib.ListN.{length, take}
 use borrow.Author.Tests.{eq-eqb, le-ltb, lt-leb}
-use Rattle.bits.specs.Format.{basic}
+use Rattle.memory.specs.declared.Status.the-variants as statuses
+use Rattle.bits.specs.Format.{basic, mostLongest}
 use Rattle.board.specs.Limits.{recordRoom}
 use Rattle.bits.specs.Octets.{bitsOf, lineBits}
 use Rattle.bits.proofs.Packing.{packed-nil}
-use Rattle.memory.specs.Lent.{emptyDescriptors, statusOf, lengthOf, slotOf, filled}
+use Rattle.memory.specs.Lent.{emptyDescriptors, statusOf, lengthOf, statusWord}
 use Rattle.memory.proofs.Slots.{empty-length, filled-front}
 use Rattle.board.specs.declared.Settings.{Settings}
 use Rattle.board.specs.Link.{clearArea}
@@ -173,27 +174,21 @@ any-cutting h fs gs u few few′ e =
     )
 
 -- ---- read
-module _ (h : Held) (slot : ℕ) (unit : List ℕ) (u : InUse h) (below : slot < h .link .settings .k)
-    (status : statusOf (h .descriptors) slot ≡ 0) (size : lengthOf (h .descriptors) slot ≡ length unit) (short : length unit ≤ 278) where
-  can-read : readNumber (h .link) (h .pool) (h .descriptors) slot ≡ 0
-  unfolding readNumber first
-  can-read =
-      rw (
-        u .formed,
-        u .opened,
-        u .fits,
-        lt-leb (h .link .settings .k) slot below,
-        status,
-        le-ltb 278 (lengthOf (h .descriptors) slot) (omega arith),
-      )
-
-  reads : slotOf basic (h .pool) slot ≡ filled basic unit → readPart (h .link) (h .pool) (h .descriptors) slot ≡ unit
-  unfolding readPart
-  reads octets =
-      done _ _ _ can-read ∙ ap₂ (λ (n : ℕ) (xs : List ℕ). take n xs) size octets ∙ filled-front basic unit
+pub can-read : (h : Held) (slot : ℕ) → InUse h → slot < h .link .settings .k → statusOf (h .descriptors) slot ≡ statusWord statuses.Good
+    → lengthOf (h .descriptors) slot ≤ mostLongest basic → readNumber (h .link) (h .pool) (h .descriptors) slot ≡ 0
+unfolding readNumber first
+can-read h slot u below status short =
+    rw (
+      u .formed,
+      u .opened,
+      u .fits,
+      lt-leb (h .link .settings .k) slot below,
+      status,
+      le-ltb (mostLongest basic) (lengthOf (h .descriptors) slot) short,
+    )
 
 pub stands-read : StandsRead
-stands-read h slot unit u below short is = (
-  can-read h slot unit u below (is .status) (is .size) short,
-  reads h slot unit u below (is .status) (is .size) short (is .octets),
-)
+unfolding readPart
+stands-read h slot unit u below short is =
+    let now = can-read h slot u below (is .status) (omega (arith, is .size)) in
+    (now, done _ _ _ now ∙ ap₂ (λ (n : ℕ) (xs : List ℕ). take n xs) (is .size) (is .octets) ∙ filled-front basic unit)

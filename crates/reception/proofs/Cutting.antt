@@ -1,20 +1,18 @@
 -- A line in two parts: the same board, the same happenings and the same records as in one.
 use Prim.Native.Nat.{ℕ, _+_, _*_, _≤_}
-use mathlib.Core.Path.{_≡_, refl, sym, ap, ap₂, _∙_}
+use mathlib.Core.Path.{_≡_, ap, _∙_}
 use mathlib.Core.List.{List, [], _∷_, _++_}
 use native.Mathlib.Omega.{arith}
 use lib.ListN.{length, length-append}
 use Rattle.board.specs.Limits.{monitorLimits}
-use Rattle.records.specs.declared.Happening.{Happening}
-use Rattle.board.specs.declared.Supervision.{Supervision}
 use Rattle.records.specs.Record.{supervisionAfter, recordsOf}
 use Rattle.records.proofs.Supervising.{supervision-append, records-append, records-length}
 use Rattle.framing.specs.Delimitation.{Receiver}
 use Rattle.board.specs.declared.Settings.{Settings}
-use Rattle.units.specs.Indications.{Indication, octetReceiver, octetIndications, lineReceiver, lineIndications}
+use Rattle.units.specs.Indications.{octetReceiver, octetIndications, lineReceiver, lineIndications}
 use Rattle.units.specs.Units.{UnitMemory, unitMemoryAfter, happenings}
 use Rattle.units.proofs.UnitStates.{unit-memory-append, happenings-append, sum-after}
-use Rattle.reception.specs.Line.{Board, boardAfter, lineHappenings, lineRecords}
+use Rattle.reception.specs.Line.{boardAfter, lineHappenings, lineRecords}
 use Rattle.reception.specs.Promises.{BoardCut, HappeningsCut, RecordsCut, RecordsSize, ThreeEach, SumOverLine}
 use Rattle.reception.proofs.Octets.{happenings-five, three}
 use Rattle.reception.proofs.Lines.{receiver-append, indications-of-both}

@@ -6,14 +6,14 @@ use native.Mathlib.Omega.{arith}
 use lib.ListN.{length, take, getD, length-append}
 use lib.Seq.{length-take-le, take-suc, take-length}
 use Rattle.board.specs.InnerRanges.{SettingsInRange}
-use Rattle.board.specs.Limits.{recordOctets, recordRoom, monitorLimits}
+use Rattle.board.specs.Limits.{recordOctets, recordRoom}
 use Rattle.bits.proofs.Machines.{run-append, outs-append}
 use Rattle.framing.specs.declared.Line.{Line}
 use Rattle.framing.specs.Delimitation.{Receiver}
 use Rattle.framing.specs.Representation.{decode}
 use Rattle.framing.specs.InnerReading.{wellFormed}
 use Rattle.board.specs.declared.Settings.{Settings}
-use Rattle.units.specs.Indications.{Indication, octetReceiver, octetIndications, lineReceiver, lineIndications}
+use Rattle.units.specs.Indications.{octetReceiver, octetIndications, lineReceiver, lineIndications}
 use Rattle.indications.specs.declared.Progress.{Progress}
 use Rattle.reception.specs.declared.Passed.{Passed}
 use Rattle.indications.specs.InnerWriting.{CallState, holding, indicationsDone, Able}

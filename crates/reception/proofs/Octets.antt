@@ -1,12 +1,11 @@
 -- One line octet: what stands between two findings, and what each turn keeps of it.
-use Prim.Native.Nat.{ℕ, zero, suc, _+_, _*_, _≤_, _<_}
+use Prim.Native.Nat.{ℕ, _+_, _*_, _≤_, _<_}
 use mathlib.Core.Path.{_≡_, refl, sym, ap, ap₂, subst, _∙_}
-use mathlib.Core.Bool.{Bool, true, false}
+use mathlib.Core.Bool.{Bool}
 use mathlib.Core.List.{List, [], _∷_, _++_, map, append-nil}
-use native.Mathlib.Nat.{add-zero}
 use native.Mathlib.Omega.{arith}
 use lib.ListN.{length, take, length-append}
-use lib.Seq.{sets, length-sets, length-take-le}
+use lib.Seq.{length-sets, length-take-le}
 use Rattle.board.specs.InnerRanges.{SettingsInRange, MonitorInRange}
 use Rattle.board.specs.Limits.{recordOctets, recordRoom, monitorLimits}
 use Rattle.bits.specs.Octets.{bitsOf, lineBits, packed}
@@ -18,7 +17,7 @@ use Rattle.framing.specs.declared.Found.{Found}
 use Rattle.framing.specs.declared.Found.the-variants.{Nothing, Closed, Abort, Long}
 use Rattle.framing.specs.declared.Fed.{Fed}
 use Rattle.framing.specs.Delimitation.{Receiver, Finding, closed, abort, long, flagged, receiverAfter, findings}
-use Rattle.framing.specs.InnerReading.{Reading, reading, wellFormed, Holds, shows, unitIn, standing, FedTo}
+use Rattle.framing.specs.InnerReading.{Reading, reading, wellFormed, Holds, shows, standing, FedTo}
 use Rattle.framing.specs.Representation.{decode}
 use Rattle.framing.proofs.Bound.{two-findings}
 use Rattle.framing.proofs.Readings.{reading-after, reading-findings}
@@ -28,7 +27,6 @@ use Rattle.board.specs.declared.Supervision.{Supervision}
 use Rattle.records.specs.Record.{supervised, supervisionAfter, recordsOf}
 use Rattle.records.specs.Promises.{FirstFive, none, more}
 use Rattle.records.proofs.Range.{stays-in-range}
-use Rattle.monitor.specs.declared.Limits.{Limits}
 use Rattle.board.specs.declared.Settings.{Settings}
 use Rattle.units.specs.Indications.{Indication, found, octetEnd, octetReceiver, octetIndications, lineReceiver, lineIndications}
 use Rattle.units.specs.Units.{UnitMemory, nextUnitMemory, happens, unitMemoryAfter, happenings}
@@ -36,7 +34,6 @@ use Rattle.units.specs.InnerFit.{Fits}
 use Rattle.units.specs.Promises.{AtMostLongest}
 use Rattle.units.proofs.UnitStates.{fit-kept, found-one, one-at-most, first-fives, happenings-append}
 use Rattle.indications.specs.declared.Progress.{Progress}
-use Rattle.reception.specs.declared.Passed.{Passed}
 use Rattle.indications.specs.InnerWriting.{CallState, holding, indicationsDone, Able, StandsIn, Shown, areaAfter}
 use Rattle.reception.specs.InnerWriting.{StateInRange, LineTaken}
 use Rattle.indications.proofs.Recording.{indications-none, indications-append}

@@ -4,7 +4,6 @@ use mathlib.Core.Path.{_≡_}
 use mathlib.Core.List.{List}
 use lib.ListN.{length}
 use Rattle.board.specs.InnerRanges.{MonitorInRange}
-use Rattle.board.specs.Limits.{monitorLimits}
 use Rattle.framing.specs.declared.Line.{Line}
 use Rattle.framing.specs.Representation.{decode}
 use Rattle.framing.specs.InnerReading.{wellFormed}

@@ -1,7 +1,7 @@
 -- Happenings and records in a row.
 use Prim.Native.Nat.{ℕ, _+_, _*_}
 use mathlib.Core.Path.{_≡_, refl, sym, ap, _∙_}
-use mathlib.Core.List.{List, [], _∷_, _++_}
+use mathlib.Core.List.{[], _∷_}
 use native.Mathlib.Omega.{arith}
 use lib.ListN.{length, getD, length-append}
 use lib.Seq.{sets, getD-append-add}
@@ -12,7 +12,6 @@ use Rattle.monitor.specs.declared.Limits.{Limits}
 use Rattle.records.specs.declared.Happening.{Happening}
 use Rattle.board.specs.declared.Supervision.{Supervision}
 use Rattle.records.specs.declared.Noted.{Noted}
-use Rattle.records.specs.Happening.{noted}
 use Rattle.records.specs.Record.{recordOf, supervised, recorded, supervisionAfter, recordsOf}
 use Rattle.records.specs.Promises.{none, more, RecordSize, OctetThirteen, CountAfter, NoEvent, SupervisionAppend, RecordsAppend, RecordsLength, RecordByRecord}
 use Rattle.bits.proofs.Writing.{sets-append}

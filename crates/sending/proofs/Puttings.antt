@@ -1,19 +1,19 @@
 -- Bits put one after the other: where the sender is, and what stands in the area.
-use Prim.Native.Nat.{ℕ, zero, suc, _+_, _-_, _*_, _/_, _%_, _^_, _≤_, _<_}
-use mathlib.Core.Path.{_≡_, refl, sym, ap, ap₂, subst, _∙_}
-use mathlib.Core.Bool.{Bool, true, false}
+use Prim.Native.Nat.{ℕ, _+_, _-_, _*_, _^_, _≤_, _<_}
+use mathlib.Core.Path.{_≡_, refl, sym, ap, ap₂, _∙_}
+use mathlib.Core.Bool.{Bool}
 use mathlib.Core.List.{List, [], _∷_, _++_, append-nil, append-assoc}
 use native.Mathlib.Nat.{add-zero}
 use native.Mathlib.Omega.{arith}
 use lib.ListN.{length, set, length-append}
-use lib.Seq.{sets, length-sets}
-use Rattle.bits.specs.Octets.{bitsOf, lineBits, octetOf, wholeOctets, bitsAfter, worth}
+use lib.Seq.{sets}
+use Rattle.bits.specs.Octets.{octetOf, wholeOctets, bitsAfter, worth}
 use Rattle.bits.proofs.Digits.{length-bitsOf, all-back, value-back, octetOf-lt, octetOf-snoc, snoc-length}
 use Rattle.bits.proofs.Whole.{length-whole, length-after, whole-few, after-few, whole-eight, after-eight, whole-append, after-append, together}
 use Rattle.bits.proofs.Writing.{sets-append}
 use Rattle.sending.specs.declared.Tx.{Tx}
 use Rattle.sending.specs.Packing.{waiting, octetsOut, stillWaiting}
-use Rattle.sending.specs.InnerPutting.{afterBits, areaPut, Puts, TxInRange, Room}
+use Rattle.sending.specs.InnerPutting.{afterBits, areaPut, Puts, TxInRange}
 use Rattle.sending.specs.Promises.{NothingLost}
 
 pub length-waiting : (t : Tx) → length (waiting t) ≡ t .count

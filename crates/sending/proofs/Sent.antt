@@ -1,24 +1,21 @@
 -- Content with its check octets, sent and read back.
-use Prim.Native.Nat.{ℕ, _+_, _*_, _%_, _≤_, _<_}
-use mathlib.Core.Path.{_≡_, refl, sym, ap, ap₂, _∙_}
-use mathlib.Core.Bool.{Bool, true, false}
+use Prim.Native.Nat.{ℕ, _+_, _*_, _%_, _≤_}
+use mathlib.Core.Path.{_≡_, sym, ap, _∙_}
 use mathlib.Core.List.{List, [], _∷_, _++_, append-nil}
 use native.Mathlib.Omega.{arith}
 use borrow.Author.Tests.{le-ltb, eq-eqb}
 use lib.ListN.{length}
-use Rattle.bits.specs.Octets.{lineBits, wholeOctets, Octets}
+use Rattle.bits.specs.Octets.{lineBits, wholeOctets}
 use Rattle.bits.proofs.Machines.{run-append, outs-append}
 use Rattle.bits.specs.Format.{fillInOctets}
 use Rattle.bits.proofs.Lines.{octets-append}
 use Rattle.bits.proofs.Whole.{whole-line}
 use Rattle.fcs.specs.Check.{checkBits, checkOf, goodResidue, checkOctets}
 use Rattle.fcs.proofs.Residue.{good-residue, check-are-octets}
-use Rattle.framing.specs.declared.Verdict.the-variants.{Good}
 use Rattle.framing.specs.Delimitation.{Receiver, Finding, closed, flagged, next, finds, receiverAfter, findings}
 use Rattle.framing.specs.Verdict.{verdictOf}
-use Rattle.sending.specs.declared.Tx.{Tx}
 use Rattle.sending.specs.Stuffing.{unitBits, unitLine}
-use Rattle.sending.specs.Packing.{waiting, octetsOut, stillWaiting}
+use Rattle.sending.specs.Packing.{waiting}
 use Rattle.sending.specs.Promises.{ReadBackSent, SentGood, SentOctets}
 use Rattle.sending.proofs.Puttings.{nothing-lost}
 use Rattle.sending.proofs.Stuffs.{unit-bits}

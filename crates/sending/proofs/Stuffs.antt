@@ -1,11 +1,10 @@
 -- Stuffing in two parts, how many zeros it puts in, and how long a unit is on the line.
-use Prim.Native.Nat.{ℕ, zero, suc, _+_, _*_, _/_, _≤_, _<_}
-use mathlib.Core.Path.{_≡_, refl, sym, ap, _∙_}
+use Prim.Native.Nat.{ℕ, zero, suc, _+_, _*_, _≤_}
+use mathlib.Core.Path.{_≡_, refl}
 use mathlib.Core.Bool.{Bool, true, false}
 use mathlib.Core.List.{List, [], _∷_, _++_}
 use native.Mathlib.Omega.{arith}
 use lib.ListN.{length, length-append}
-use Rattle.bits.specs.Octets.{lineBits, wholeOctets}
 use Rattle.bits.proofs.Machines.{run-append, outs-append}
 use Rattle.bits.proofs.Lines.{length-lineBits}
 use Rattle.bits.proofs.Whole.{length-whole}

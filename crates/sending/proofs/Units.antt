@@ -1,17 +1,16 @@
 -- A whole unit put: content, check octets, flag, one after the other.
-use Prim.Native.Nat.{ℕ, _≤_}
-use mathlib.Core.Path.{_≡_, refl, sym, ap, subst, _∙_}
+use Prim.Native.Nat.{ℕ}
+use mathlib.Core.Path.{_≡_, sym, ap, subst, _∙_}
 use mathlib.Core.Bool.{Bool}
-use mathlib.Core.List.{List, [], _∷_, _++_, append-assoc}
+use mathlib.Core.List.{List, [], _++_, append-assoc}
 use native.Mathlib.Omega.{arith}
-use lib.ListN.{length, length-append}
 use Rattle.bits.specs.Octets.{lineBits}
 use Rattle.bits.proofs.Lines.{line-append}
 use Rattle.fcs.specs.Check.{checkOctets}
 use Rattle.sending.specs.declared.Tx.{Tx}
 use Rattle.sending.specs.Stuffing.{stuffed, onesOver, flag, unitBits, unitLine}
 use Rattle.sending.specs.Packing.{octetsOut, stillWaiting}
-use Rattle.sending.specs.InnerPutting.{afterBits, Puts, TxInRange, Room}
+use Rattle.sending.specs.InnerPutting.{Puts, TxInRange, Room}
 use Rattle.sending.proofs.Stuffs.{stuffed-append, over-le}
 use Rattle.sending.proofs.PutSteps.{Rest, begins, first-room, goes, ends, marked}
 

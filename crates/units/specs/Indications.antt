@@ -1,6 +1,5 @@
 -- What a line octet is to the rest of the board: what its bits find, in order, and then its end.
 use Prim.Native.Nat.{ℕ}
-use mathlib.Core.Bool.{Bool}
 use mathlib.Core.List.{List, [], _∷_, _++_, map}
 use Rattle.bits.specs.Octets.{bitsOf}
 use Rattle.bits.specs.Machine.{run, outs}

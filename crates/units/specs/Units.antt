@@ -14,7 +14,6 @@ use Rattle.framing.specs.Verdict.{verdictOf}
 use Rattle.filter.specs.declared.Fate.{Fate}
 use Rattle.filter.specs.declared.Fate.the-variants.{HandedOver, Dropped, Lost}
 use Rattle.filter.specs.declared.Memory.{Memory}
-use Rattle.filter.specs.declared.Settled.{Settled}
 use Rattle.filter.specs.Memory.{settled}
 use Rattle.memory.specs.declared.Status.{Status}
 use Rattle.memory.specs.declared.Status.the-variants as statuses

@@ -1,11 +1,11 @@
 -- `fcs::check_octet` meets its contract: the bits that are left, fed to the register, give the whole.
 use mathlib.Core.Path.{_≡_, refl, sym, ap, _∙_}
-use Prim.Native.Nat.{ℕ, _-_, _/_, _≤_, _<_}
+use Prim.Native.Nat.{ℕ, _-_, _≤_}
 use native.Mathlib.Omega.{arith}
 use borrow.Author.Needs.{needs}
-use Rattle.bits.specs.Octets.{odd, bitsOf}
+use Rattle.bits.specs.Octets.{bitsOf}
 use Rattle.bits.proofs.Digits.{bits-cons}
-use Rattle.fcs.specs.Check.{checkBit, checkBits}
+use Rattle.fcs.specs.Check.{checkBits}
 use Rattle.fcs.proofs.check_octet.Statement.{statement}
 use Rattle.fcs.proofs.check_octet.Tie as tie
 

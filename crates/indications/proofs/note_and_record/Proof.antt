@@ -1,5 +1,4 @@
 -- `indications::note_and_record` meets its contract: what the monitor notes is what is recorded.
-use Rattle.board.specs.Limits.{monitorLimits}
 use Rattle.indications.proofs.Recording.{note-and-record-way}
 use Rattle.records.proofs.Range.{range-takes}
 use borrow.Author.Needs.{needs}

@@ -1,6 +1,6 @@
 -- `input::receive` meets its contract: refused, or the octets are taken and the link is put together again.
 use Prim.Native.Nat.{_+_, _*_, _≤_}
-use mathlib.Core.Path.{_≡_, sym, subst, _∙_}
+use mathlib.Core.Path.{sym, subst, _∙_}
 use native.Mathlib.Omega.{arith}
 use lib.ListN.{length}
 use Rattle.board.specs.Limits.{recordOctets, recordRoom}

@@ -2,7 +2,7 @@
 use Rattle.reception.proofs.take_line.Statement.{statement}
 use Rattle.reception.proofs.take_line.Tie as tie
 use Prim.Native.Nat.{_≤_, _-_}
-use mathlib.Core.Path.{_≡_, refl, sym, _∙_}
+use mathlib.Core.Path.{refl, sym, _∙_}
 use native.Mathlib.Omega.{arith}
 use lib.ListN.{length, take}
 use Rattle.indications.specs.InnerWriting.{holding}

@@ -1,7 +1,7 @@
 -- `reception::take_octet` meets its contract: the findings still to come, dealt with from here, give the whole octet.
 use Rattle.reception.proofs.take_octet.Statement.{statement}
 use Rattle.reception.proofs.take_octet.Tie as tie
-use mathlib.Core.Path.{_≡_, sym, _∙_}
+use mathlib.Core.Path.{sym, _∙_}
 use native.Mathlib.Omega.{arith}
 use Rattle.bits.specs.Octets.{bitsOf}
 use Rattle.framing.specs.InnerReading.{reading}

@@ -1,8 +1,7 @@
 -- `sending::grow` meets its contract.
-use Prim.Native.Nat.{ℕ, _+_, _*_, _^_, _≤_, _<_}
-use mathlib.Core.Path.{_≡_, ap}
+use Prim.Native.Nat.{_+_, _^_, _≤_}
 use mathlib.Core.Bool.{true}
-use native.Mathlib.Nat.{one-mul, add-zero}
+use native.Mathlib.Nat.{one-mul}
 use native.Mathlib.Omega.{arith}
 use borrow.Author.Needs.{needs}
 use lib.Pow.{pow-mono}

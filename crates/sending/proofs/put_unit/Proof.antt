@@ -1,7 +1,5 @@
 -- `sending::put_unit` meets its contract: content, check octets and flag are put one after the other.
 use borrow.Author.Needs.{needs}
-use mathlib.Core.List.{List}
-use Prim.Native.Nat.{ℕ}
 use Rattle.sending.proofs.Units.{content-room, check-room, flag-room, unit-put}
 use Rattle.sending.proofs.put_unit.Statement.{statement}
 use Rattle.sending.proofs.put_unit.Tie as tie

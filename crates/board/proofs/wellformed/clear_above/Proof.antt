@@ -1,6 +1,5 @@
 -- `board::wellformed::clear_above` meets its contract.
-use mathlib.Core.Path.{_≡_, sym}
-use Prim.Native.Nat.{_<_}
+use mathlib.Core.Path.{sym}
 use borrow.Author.Needs.{needs}
 use Rattle.board.proofs.Past.{none-above, part-above}
 use Rattle.board.proofs.wellformed.clear_above.Statement.{statement}

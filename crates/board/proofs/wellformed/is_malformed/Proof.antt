@@ -1,6 +1,6 @@
 -- `board::wellformed::is_malformed` meets its contract.
-use mathlib.Core.Path.{_≡_, sym, ap, _∙_}
-use mathlib.Core.Bool.{Bool, not}
+use mathlib.Core.Path.{sym, ap, _∙_}
+use mathlib.Core.Bool.{not}
 use borrow.Author.Needs.{needs}
 use Rattle.board.proofs.Ranges.{when-open, when-closed}
 use Rattle.board.proofs.wellformed.is_malformed.Statement.{statement}

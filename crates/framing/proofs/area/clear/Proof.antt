@@ -1,13 +1,13 @@
 -- `framing::area::clear` meets its contract: zeros up to the last octet that holds a bit, and zeros stood past it.
-use Prim.Native.Nat.{ℕ, _+_, _-_, _*_, _/_, _≤_, _<_}
-use mathlib.Core.Path.{_≡_, refl, sym, ap, _∙_}
-use mathlib.Core.List.{List, [], _++_}
+use Prim.Native.Nat.{ℕ, _+_, _-_, _/_, _≤_}
+use mathlib.Core.Path.{_≡_, refl, ap, _∙_}
+use mathlib.Core.List.{List, _++_}
 use native.Mathlib.Omega.{arith}
 use borrow.Author.Needs.{needs}
 use borrow.Author.Fill.{fill-more}
 use denote.Ref.{now}
 use lib.ListN.{length, take, drop, replicate}
-use Rattle.bits.specs.Octets.{lineBits, packed}
+use Rattle.bits.specs.Octets.{lineBits}
 use Rattle.bits.proofs.Packing.{zero-front, held-length, length-packed}
 use Rattle.framing.proofs.area.clear.Statement.{statement}
 use Rattle.framing.proofs.area.clear.Tie as tie

@@ -1,7 +1,6 @@
 -- `framing::delimit::put_bit` meets its contract: a one is set at its place, a zero stands there already.
 use borrow.Author.Needs.{needs}
 use denote.Ref.{now}
-use native.Mathlib.Omega.{arith}
 use Rattle.bits.proofs.Gathering.{put-one, put-zero}
 use Rattle.framing.proofs.delimit.put_bit.Statement.{statement}
 use Rattle.framing.proofs.delimit.put_bit.Tie as tie

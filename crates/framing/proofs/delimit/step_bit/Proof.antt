@@ -1,5 +1,5 @@
 -- `framing::delimit::step_bit` meets its contract: one law for each way out.
-use Prim.Native.Nat.{ℕ, _+_, _≤_, min}
+use Prim.Native.Nat.{_≤_}
 use native.Mathlib.Omega.{arith}
 use borrow.Author.Needs.{needs}
 use denote.Ref.{now}
