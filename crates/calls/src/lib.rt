@@ -6,6 +6,7 @@ pub use board::rows::numbers;
 pub use input::receive;
 pub use link::booking::open;
 pub use link::booking::wipe;
+pub use link::clearing::clear;
 pub use link::commands::command;
 pub use link::slots::hand_back;
 pub use link::slots::read;

@@ -75,14 +75,15 @@ module _ (l : Link) (s : Settings) (pool descriptors : List ℕ) where
     open-done r d z er ed = ap₂ (λ (x : Link) (y : List ℕ). outcome 0 x pool y) er ed ∙ sym (done _ _ _ (sym e ∙ z))
 
 -- ---- command
-module _ (l : Link) (command n : ℕ) (e : n ≡ commandNumber l command) where
-  pub command-refused : (n ≡ 0 → ⊥) → record { number = n; link = l } ≡ commandAnswer l command
-  unfolding commandAnswer
-  command-refused z = ap {B = Answer} (λ (k : ℕ). record { number = k; link = l }) e ∙ sym (refused _ _ _ (λ q. z (e ∙ q)))
+-- an answer of number and link, by the number m that the definition has
+module _ (n m : ℕ) (e : n ≡ m) (l : Link) where
+  pub number-refused : (yes-done : Answer) → (n ≡ 0 → ⊥)
+      → _≡_ {A = Answer} (record { number = n; link = l }) (cond (eqb m 0) yes-done (record { number = m; link = l }))
+  number-refused yes-done z = ap {B = Answer} (λ (k : ℕ). record { number = k; link = l }) e ∙ sym (refused _ _ _ (λ q. z (e ∙ q)))
 
-  pub command-done : (r : Link) → n ≡ 0 → r ≡ obeyed (commandOf command) l → record { number = 0; link = r } ≡ commandAnswer l command
-  unfolding commandAnswer
-  command-done r z er = ap {B = Answer} (λ (x : Link). record { number = 0; link = x }) er ∙ sym (done _ _ _ (sym e ∙ z))
+  pub number-done : {r r′ : Link} → n ≡ 0 → r ≡ r′
+      → _≡_ {A = Answer} (record { number = 0; link = r }) (cond (eqb m 0) (record { number = 0; link = r′ }) (record { number = m; link = l }))
+  number-done z er = ap {B = Answer} (λ (x : Link). record { number = 0; link = x }) er ∙ sym (done _ _ _ (sym e ∙ z))
 
 -- ---- read and hand back
 pub record Readable (l : Link) (pool descriptors : List ℕ) (slot : ℕ) : Type 0 where

@@ -99,4 +99,4 @@ no-fault fs r = (none-found 0 fs r, λ e. sym (ap first (append-nil fs)) ∙ ski
 
 pub tables-rise : TablesRise
 unfolding rising
-tables-rise l s pool descriptors command slot = (refl, refl, refl)
+tables-rise l s pool descriptors command slot = (refl, refl, refl, refl)

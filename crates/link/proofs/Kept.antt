@@ -15,8 +15,8 @@ use Rattle.board.specs.declared.Settings.{Settings}
 use Rattle.board.specs.declared.Link.{Link}
 use Rattle.board.specs.Malformed.{malformed}
 use Rattle.link.specs.Refusals.{first, fitsMemory, openNumber, readNumber}
-use Rattle.link.specs.Calls.{Outcome, outcome, openedLink, openAnswer, commandAnswer, readPart, handAnswer}
-use Rattle.link.specs.Promises.{RefusedOpen, RefusedCommand, RefusedRead, RefusedHandBack, WipeLeavesNothing, OpensOnWiped, HandedBackIsEmpty}
+use Rattle.link.specs.Calls.{Outcome, outcome, openedLink, openAnswer, commandAnswer, readPart, handAnswer, clearAnswer}
+use Rattle.link.specs.Promises.{RefusedOpen, RefusedCommand, RefusedRead, RefusedHandBack, WipeLeavesNothing, OpensOnWiped, HandedBackIsEmpty, RefusedClear}
 use Rattle.link.proofs.Answers.{done, refused, openable, readable}
 
 pub refused-open : RefusedOpen
@@ -26,6 +26,10 @@ refused-open l s pool descriptors z = refused _ _ _ z
 pub refused-command : RefusedCommand
 unfolding commandAnswer
 refused-command l command z = refused _ _ _ z
+
+pub refused-clear : RefusedClear
+unfolding clearAnswer
+refused-clear l chosen z = refused _ _ _ z
 
 pub refused-read : RefusedRead
 unfolding readPart

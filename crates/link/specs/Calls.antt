@@ -3,6 +3,7 @@
 use Prim.Native.Nat.{ℕ}
 use mathlib.Core.Bool.{true, false, cond}
 use mathlib.Core.List.{List, []}
+use lib.Bits.{bitAnd, bitXor}
 use lib.Dec.{eqb}
 use lib.ListN.{take}
 use Rattle.bits.specs.Format.{basic}
@@ -11,9 +12,10 @@ use Rattle.memory.specs.Lent.{wiped, emptyDescriptors, lengthOf, slotOf, withSl
 use Rattle.board.specs.declared.Settings.{Settings}
 use Rattle.board.specs.declared.Link.{Link}
 use Rattle.board.specs.Link.{newLink, newUnits}
+use Rattle.board.specs.With.{withSupervision}
 use Rattle.link.specs.declared.Answer.{Answer}
 use Rattle.link.specs.Commands.{commandOf, obeyed}
-use Rattle.link.specs.Refusals.{openNumber, commandNumber, readNumber}
+use Rattle.link.specs.Refusals.{openNumber, commandNumber, clearNumber, readNumber}
 
 -- the answer of a call that is lent pool and descriptors
 pub record Outcome : Type 0 where
@@ -59,6 +61,19 @@ commandAnswer l command =
     cond (eqb (commandNumber l command) 0)
     (record { number = 0; link = obeyed (commandOf command) l })
     (record { number = commandNumber l command; link = l })
+
+-- "A further call clears chosen event bits and never gives another refusal than 1 and 2."
+abbrev pub withoutBits : ℕ → ℕ → ℕ
+withoutBits events chosen = bitXor events (bitAnd events chosen)
+
+unfoldable pub clearAnswer : Link → ℕ → Answer
+clearAnswer l chosen =
+    cond (eqb (clearNumber l) 0)
+    (record {
+      number = 0;
+      link = withSupervision l (record { monitor = l .supervision .monitor; events = withoutBits (l .supervision .events) chosen });
+    })
+    (record { number = clearNumber l; link = l })
 
 -- "Read returns the first length octets of the slot, as a part of the pool"
 unfoldable pub readPart : Link → List ℕ → List ℕ → ℕ → List ℕ

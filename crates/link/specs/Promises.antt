@@ -8,9 +8,9 @@ use Rattle.memory.specs.Lent.{zeros}
 use Rattle.board.specs.declared.Settings.{Settings}
 use Rattle.board.specs.declared.Link.{Link}
 use Rattle.board.specs.Link.{newLink}
-use Rattle.link.specs.Refusals.{Fault, fault, first, openFaults, commandFaults, readFaults, openNumber, commandNumber, readNumber}
+use Rattle.link.specs.Refusals.{Fault, fault, first, openFaults, commandFaults, readFaults, openNumber, commandNumber, readNumber, clearFaults, clearNumber}
 use Rattle.link.specs.Tables.{noneFound, rising}
-use Rattle.link.specs.Calls.{outcome, openAnswer, wipeAnswer, commandAnswer, readPart, handAnswer}
+use Rattle.link.specs.Calls.{outcome, openAnswer, wipeAnswer, commandAnswer, readPart, handAnswer, clearAnswer}
 
 -- D1.2: in a table of rising numbers a fault's number is given exactly if that fault is found and none before it,
 abbrev pub FirstFault : Type 0
@@ -28,6 +28,7 @@ TablesRise =
     (l : Link) (s : Settings) (pool descriptors : List ℕ) (command slot : ℕ)
     → (rising 0 (openFaults l s pool descriptors) ≡ true)
     × (rising 0 (commandFaults l command) ≡ true)
+    × (rising 0 (clearFaults l) ≡ true)
     × (rising 0 (readFaults l pool descriptors slot) ≡ true)
 
 -- D1.2: a refused call gives back the link and every lent list as they were; a refused read gives an empty part.
@@ -40,6 +41,9 @@ abbrev pub RefusedCommand : Type 0
 RefusedCommand =
     (l : Link) (command : ℕ) → (commandNumber l command ≡ 0 → ⊥)
     → commandAnswer l command ≡ record { number = commandNumber l command; link = l }
+
+abbrev pub RefusedClear : Type 0
+RefusedClear = (l : Link) (chosen : ℕ) → (clearNumber l ≡ 0 → ⊥) → clearAnswer l chosen ≡ record { number = clearNumber l; link = l }
 
 abbrev pub RefusedRead : Type 0
 RefusedRead =

@@ -60,11 +60,17 @@ readFaults l pool descriptors slot =
     ∷ fault (unreadable basic (statusOf descriptors slot) (lengthOf descriptors slot)) 13
     ∷ []
 
+abbrev pub clearFaults : Link → List Fault
+clearFaults l = fault (malformed l) 1 ∷ fault (not (l .opened)) 2 ∷ []
+
 unfoldable pub openNumber : Link → Settings → List ℕ → List ℕ → ℕ
 openNumber l s pool descriptors = first (openFaults l s pool descriptors)
 
 unfoldable pub commandNumber : Link → ℕ → ℕ
 commandNumber l command = first (commandFaults l command)
+
+unfoldable pub clearNumber : Link → ℕ
+clearNumber l = first (clearFaults l)
 
 unfoldable pub readNumber : Link → List ℕ → List ℕ → ℕ → ℕ
 readNumber l pool descriptors slot = first (readFaults l pool descriptors slot)

@@ -2,6 +2,7 @@
 use board::Link;
 
 pub mod booking;
+pub mod clearing;
 pub mod commands;
 pub mod slots;
 

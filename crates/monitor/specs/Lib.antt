@@ -2,4 +2,5 @@
 pub mod Monitor
 pub mod History
 pub mod Stretch
+pub mod ErrorMonitors
 pub mod Promises

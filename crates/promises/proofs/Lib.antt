@@ -1,2 +1,12 @@
--- The cases, shown.
+-- The cases, and demand 3, shown.
 pub mod Cases
+pub mod Answering
+pub mod Holding
+pub mod EventBits
+pub mod Alarming
+pub mod Setting
+pub mod Splits
+pub mod Standing
+pub mod Demand3
+pub mod Examples
+pub mod Views

@@ -1,2 +1,6 @@
--- The table of cases.
+-- The table of cases, lists of calls, and demand 3.
 pub mod Cases
+pub mod History
+pub mod Demand3
+pub mod Examples
+pub mod Views

@@ -1,5 +1,6 @@
 -- `link::commands::command` meets its contract: refused, or obeyed.
-use Rattle.link.proofs.Answers.{command-refused, command-done}
+use Rattle.link.specs.Calls.{commandAnswer}
+use Rattle.link.proofs.Answers.{number-refused, number-done}
 use borrow.Author.Needs.{needs}
 use Rattle.link.proofs.commands.command.Statement.{statement}
 use Rattle.link.proofs.commands.command.Tie as tie
@@ -8,7 +9,8 @@ command-number-requires : tie.Need-command-number-requires
 command-number-requires c κs = search needs
 
 returns : tie.Need-returns
-returns c = command-refused (c .before .before .args .link) (c .before .before .args .command) (c .before .command-number .result) (c .before .command-number .ensures) (c .if1 .taken)
+unfolding commandAnswer
+returns c = number-refused _ _ (c .before .command-number .ensures) _ _ (c .if1 .taken)
 
 command-of-requires : tie.Need-command-of-requires
 command-of-requires c κs = search needs
@@ -17,12 +19,11 @@ obey-requires : tie.Need-obey-requires
 obey-requires c κs = search needs
 
 returns-2 : tie.Need-returns-2
+unfolding commandAnswer
 returns-2 c =
     let o = c .before in
     let d = o .before in
-    let s = d .before .before .args in
-    command-done (s .link) (s .command) (d .before .command-number .result) (d .before .command-number .ensures) (c .obey .result) (d .if1 .left)
-    (rw (o .command-of .ensures) at (c .obey .ensures))
+    number-done _ _ (d .before .command-number .ensures) _ (d .if1 .left) (rw (o .command-of .ensures) at (c .obey .ensures))
 
 pub command-spec : {M : Type 1} → statement M
 command-spec =

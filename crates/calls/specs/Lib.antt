@@ -1,0 +1,2 @@
+-- The calls of a host, and lists of them.
+pub mod Call
