@@ -1,2 +1,3 @@
 -- The calls of a host, and lists of them.
 pub mod Call
+pub mod Lending

@@ -1,0 +1,5 @@
+-- Isolation, and what a booking's calls have seen since opening.
+pub mod Isolation
+pub mod Booking
+pub mod History
+pub mod Dropped
