@@ -1,0 +1,3 @@
+-- What is found between two flags.
+pub mod BetweenFlags
+pub mod Examples
