@@ -1,7 +1,9 @@
-# `make test` proves and tests everything; its last line is the verdict. `make demo` runs lineview on a sample line.
+# `make test` sees that the line and the records for the check of units are those of the independent program, then proves and tests
+# everything; its last line is the verdict. `make demo` runs lineview on a sample line.
 .PHONY: test demo
 
 test:
+	python3 tests/crc_units.py check
 	rt ci
 
 demo:
