@@ -3,4 +3,5 @@ pub mod Isolation
 pub mod Courses
 pub mod Inputs
 pub mod History
+pub mod BetweenFlags
 pub mod Dropped

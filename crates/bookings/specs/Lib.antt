@@ -2,4 +2,5 @@
 pub mod Isolation
 pub mod Booking
 pub mod History
+pub mod BetweenFlags
 pub mod Dropped
