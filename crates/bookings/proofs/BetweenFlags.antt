@@ -1,6 +1,6 @@
 -- What a booking found between two flags: the law of delimitation, at the whole line of the booking.
 use Prim.Native.Nat.{ℕ}
-use mathlib.Core.Path.{_≡_, refl, sym, ap, ap₂, _∙_}
+use mathlib.Core.Path.{_≡_, sym, ap, ap₂, _∙_}
 use mathlib.Core.Bool.{Bool, true}
 use mathlib.Core.List.{List, _++_, append-assoc}
 use Rattle.bits.proofs.Machines.{outs-append}

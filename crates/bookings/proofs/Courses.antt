@@ -1,12 +1,11 @@
 -- The course of a list of calls: its front is the history's, and so that of the link.
-use Prim.Native.Nat.{ℕ}
 use mathlib.Core.Path.{_≡_, refl, sym, ap, _∙_}
 use mathlib.Core.List.{List, [], _∷_, _++_}
 use Rattle.bits.proofs.Machines.{run-append}
 use Rattle.calls.specs.Call.{Call, linkAfter}
-use Rattle.promises.specs.History.{Front, newFront, Past, newPast, pastNext, pastAfter}
+use Rattle.promises.specs.History.{Front, newFront, Past, pastNext, pastAfter}
 use Rattle.promises.proofs.Holding.{frontOf, holds-after, by-last, past-last}
-use Rattle.bookings.specs.Booking.{Booking, newBooking, Course, courseNext, courseAfter}
+use Rattle.bookings.specs.Booking.{newBooking, Course, courseNext, courseAfter}
 
 pub course-last : (cs : List Call) (c : Call) → courseAfter (cs ++ (c ∷ [])) ≡ courseNext (courseAfter cs) c
 unfolding courseAfter

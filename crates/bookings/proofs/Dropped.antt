@@ -10,14 +10,14 @@ use Rattle.bits.specs.Machine.{run, outs}
 use Rattle.filter.specs.declared.Fate.{Fate}
 use Rattle.filter.specs.declared.Fate.the-variants.{HandedOver, Dropped, Lost}
 use Rattle.filter.specs.declared.Memory.{Memory}
-use Rattle.filter.specs.Unit.{kindOf, alike}
+use Rattle.filter.specs.Unit.{kindOf}
 use Rattle.filter.specs.Memory.{emptyMemory, drops, settled}
 use Rattle.filter.specs.History.{FilterInput, good, command-4, memoryNext, fateOf, memoryAfter, fates}
-use Rattle.filter.specs.Predecessors.{isMessage, droppedAfter, Unbroken, none, more}
+use Rattle.filter.specs.Predecessors.{isMessage, droppedAfter, Unbroken, more}
 use Rattle.filter.specs.Predecessors.{HadItsLike as LikeBefore}
 use Rattle.filter.proofs.ByPredecessors.{dropped-exactly, dropped-had-its-like, like-handed-over}
 use Rattle.board.specs.declared.Settings.{Settings}
-use Rattle.calls.specs.Call.{Call, linkAfter}
+use Rattle.calls.specs.Call.{linkAfter}
 use Rattle.bookings.specs.Booking.{bookingAfter}
 use Rattle.bookings.specs.History.{unitsOf}
 use Rattle.bookings.specs.Dropped.{fateAfter, Keeps, HadItsLike, DroppedInBooking}

@@ -1,5 +1,5 @@
 -- The history of a booking: what holds of it at opening, and after each call.
-use Prim.Native.Nat.{ℕ, zero, suc, _+_, _%_, _^_}
+use Prim.Native.Nat.{ℕ, suc, _+_}
 use mathlib.Core.Path.{_≡_, refl, sym, ap, ap₂, subst, _∙_}
 use mathlib.Core.Bool.{Bool, true, false, cond}
 use mathlib.Core.List.{List, [], _∷_, _++_, map, append-nil}
@@ -21,8 +21,7 @@ use Rattle.board.specs.declared.Settings.{Settings}
 use Rattle.board.specs.declared.Counts.{Counts}
 use Rattle.board.specs.declared.Link.{Link}
 use Rattle.board.specs.Link.{newUnits}
-use Rattle.records.specs.declared.Happening.{Happening}
-use Rattle.units.specs.Indications.{Indication, lineReceiver, lineIndications}
+use Rattle.units.specs.Indications.{Indication, lineIndications}
 use Rattle.units.specs.Units.{UnitMemory, unitMemory, counted, unitMemoryAfter, happenings}
 use Rattle.link.specs.declared.commands.CommandCode.{CommandCode}
 use Rattle.link.specs.declared.commands.CommandCode.the-variants.{MonitorOff, StartFailure, StartAlignment, MustHandOver, CountOctets, Unknown}

@@ -1,6 +1,6 @@
 -- What one indication, and a line of them, is to the filter, to the counts and to the records.
-use Prim.Native.Nat.{ℕ, zero, suc}
-use mathlib.Core.Path.{_≡_, refl, sym, ap, ap₂, subst, _∙_}
+use Prim.Native.Nat.{ℕ}
+use mathlib.Core.Path.{_≡_, refl, sym, ap, ap₂, _∙_}
 use mathlib.Core.Bool.{Bool, true, false, _&&_, cond}
 use mathlib.Core.List.{List, [], _∷_, _++_, map, append-assoc, append-nil}
 use lib.Dec.{eqb}
@@ -20,16 +20,15 @@ use Rattle.filter.specs.History.{FilterInput, good, command-4, memoryNext, fate
 use Rattle.memory.specs.declared.Status.{Status}
 use Rattle.memory.specs.declared.Status.the-variants as statuses
 use Rattle.board.specs.declared.Settings.{Settings}
-use Rattle.board.specs.declared.Counting.{Counting}
 use Rattle.board.specs.declared.Counts.{Counts}
 use Rattle.records.specs.declared.RecordKind.{RecordKind}
 use Rattle.records.specs.declared.RecordKind.the-variants as kinds
 use Rattle.records.specs.declared.Happening.{Happening}
 use Rattle.units.specs.Indications.{Indication, found, octetEnd, octetReceiver, octetIndications, lineReceiver, lineIndications}
-use Rattle.units.specs.Units.{UnitMemory, unitMemory, Effect, effect, unitStateOf, isFree, counted, byFate, byVerdict, tickOf, goodUnit, erroredUnit, closedUnit, octetEffect, effectOf, nextUnitMemory, happens, unitMemoryAfter, happenings}
+use Rattle.units.specs.Units.{UnitMemory, unitMemory, Effect, isFree, counted, byFate, tickOf, goodUnit, erroredUnit, closedUnit, octetEffect, effectOf, nextUnitMemory, happens, unitMemoryAfter, happenings}
 use Rattle.units.proofs.UnitStates.{each-cond}
 use Rattle.bookings.specs.Booking.{toFilter, inputOf, inputsIn}
-use Rattle.bookings.specs.History.{ifGood, goodUnits, unitsOf, Shown, byFate as by-fate, plain, shownAs, shown, kindShown, kindsShown, fateTold, fatesTold}
+use Rattle.bookings.specs.History.{ifGood, goodUnits, unitsOf, Shown, byFate as by-fate, shownAs, shown, kindShown, kindsShown, fateTold, fatesTold}
 
 -- ---- lists in two parts
 pub kinds-append : (xs ys : List Happening) → kindsShown (xs ++ ys) ≡ kindsShown xs ++ kindsShown ys

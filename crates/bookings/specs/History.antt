@@ -2,14 +2,14 @@
 -- proofs/History.antt.
 use Prim.Native.Nat.{ℕ, suc, _+_, _%_, _^_}
 use mathlib.Core.Path.{_≡_}
-use mathlib.Core.Bool.{Bool, true, false, not, cond}
+use mathlib.Core.Bool.{Bool, true, false, cond}
 use mathlib.Core.List.{List, [], _∷_, _++_, map}
 use lib.ListN.{length}
 use Rattle.bits.specs.Octets.{lineBits, wholeOctets}
 use Rattle.bits.specs.Format.{basic}
 use Rattle.framing.specs.declared.Verdict.{Verdict}
 use Rattle.framing.specs.declared.Verdict.the-variants.{Short, NotWhole, CheckWrong, Good}
-use Rattle.framing.specs.Delimitation.{Receiver, Finding, closed, abort, long, newReceiver, receiverAfter, findings}
+use Rattle.framing.specs.Delimitation.{Finding, closed, abort, long, newReceiver, receiverAfter, findings}
 use Rattle.framing.specs.Representation.{decode}
 use Rattle.framing.specs.Verdict.{verdictOf}
 use Rattle.filter.specs.declared.Fate.{Fate}
@@ -18,9 +18,8 @@ use Rattle.filter.specs.History.{FilterInput, good, command-4, fates}
 use Rattle.records.specs.declared.RecordKind.{RecordKind}
 use Rattle.records.specs.declared.RecordKind.the-variants as kinds
 use Rattle.records.specs.declared.Happening.{Happening}
-use Rattle.board.specs.declared.Link.{Link}
 use Rattle.calls.specs.Call.{Call, linkAfter}
-use Rattle.bookings.specs.Booking.{Booking, bookingAfter}
+use Rattle.bookings.specs.Booking.{bookingAfter}
 
 -- ---- the good units of what was found, and of what went to the filter
 abbrev pub ifGood : List Bool → Verdict → List (List ℕ)

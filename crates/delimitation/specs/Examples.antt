@@ -1,8 +1,7 @@
 -- Examples of what is found between two flags, by computation. The proofs are in proofs/Examples.antt.
-use Prim.Native.Nat.{ℕ}
 use mathlib.Core.Path.{_≡_}
-use mathlib.Core.Bool.{Bool, true, false}
-use mathlib.Core.List.{List, [], _∷_, _++_}
+use mathlib.Core.Bool.{true, false}
+use mathlib.Core.List.{[], _∷_, _++_}
 use lib.ListN.{length, replicate}
 use Rattle.delimitation.specs.BetweenFlags.{between}
 

@@ -1,19 +1,16 @@
 -- The alarm at each thing that a call brings: in octet 13 of its record, in the event bits, and by the history's law.
-use Prim.Native.Nat.{ℕ, zero, suc, _+_, _*_, _<_, _≤_}
+use Prim.Native.Nat.{ℕ, zero, suc, _+_, _*_, _<_}
 use mathlib.Core.Path.{_≡_, refl, sym, ap, subst, _∙_}
 use mathlib.Core.Logic.{_↔_, _⊎_, inl, inr, ⊎-elim}
-use mathlib.Core.Bool.{Bool, true, false, cond, _||_, false≢true, or-false}
+use mathlib.Core.Bool.{Bool, true, false, cond, false≢true}
 use mathlib.Core.List.{List, [], _∷_, _++_}
 use native.Mathlib.Omega.{arith}
-use native.Mathlib.Numerals.{add-one}
-use lib.Bits.{bitOr}
-use lib.ListN.{length, getD, take, replicate, length-append, List·getD-append}
+use lib.ListN.{length, getD, take, replicate, List·getD-append}
 use lib.Seq.{getD-append-add}
 use Rattle.monitor.specs.Stretch.{First}
 use Rattle.bits.specs.Octets.{worth}
 use Rattle.monitor.specs.declared.Alarm.{Alarm}
-use Rattle.monitor.specs.declared.Alarm.the-variants.{Nothing, Suer, Aerm}
-use Rattle.monitor.specs.declared.Monitor.{Monitor}
+use Rattle.monitor.specs.declared.Alarm.the-variants.{Nothing}
 use Rattle.monitor.specs.declared.Limits.{Limits}
 use Rattle.monitor.specs.Monitor.{step}
 use Rattle.monitor.specs.History.{OffOrIdle, alarms}
@@ -23,15 +20,14 @@ use Rattle.board.specs.declared.Supervision.{Supervision}
 use Rattle.board.specs.Limits.{recordOctets}
 use Rattle.records.specs.declared.Happening.{Happening}
 use Rattle.records.specs.declared.Noted.{Noted}
-use Rattle.records.specs.Happening.{alarmBit, raises, noted}
-use Rattle.records.specs.Record.{recorded, supervised, recordsOf, supervisionAfter}
+use Rattle.records.specs.Happening.{raises, noted}
+use Rattle.records.specs.Record.{recorded, supervised, recordsOf}
 use Rattle.records.specs.Promises.{FirstFive, more}
 use Rattle.records.proofs.Noting.{noted-event, noted-none}
 use Rattle.records.proofs.Supervising.{record-size, octet-thirteen}
 use Rattle.promises.specs.History.{events, isEvent, Since, stopped, started, History}
-use Rattle.promises.specs.Demand3.{AlarmAt, bitSet, bitOf, other, NotStarted}
+use Rattle.promises.specs.Demand3.{AlarmAt, other, NotStarted}
 use Rattle.promises.proofs.Holding.{Agrees}
-use Rattle.promises.proofs.EventBits.{bit-or}
 
 -- there are two monitors
 both-of : (x y : ErrorMonitor) → (y ≡ x) ⊎ (y ≡ other x)

@@ -4,7 +4,7 @@ use mathlib.Core.Path.{_≡_, refl, sym, ap, _∙_}
 use mathlib.Core.Bool.{Bool, true, false, cond}
 use mathlib.Core.List.{List}
 use lib.Dec.{eqb}
-use borrow.Author.Tests.{eqb-true, eq-eqb, ne-eqb}
+use borrow.Author.Tests.{eqb-true}
 use Rattle.bits.specs.Format.{basic}
 use Rattle.memory.specs.declared.Status.the-variants as statuses
 use Rattle.memory.specs.Lent.{statusWord, emptyDescriptors, withSlot, withDescriptor, emptySlot}
@@ -14,7 +14,7 @@ use Rattle.board.specs.With.{withSupervision}
 use Rattle.link.specs.declared.Answer.{Answer as NumberAndLink}
 use Rattle.link.specs.Refusals.{first, openNumber, commandNumber, clearNumber, readNumber}
 use Rattle.link.specs.Commands.{commandOf, obeyed}
-use Rattle.link.specs.Calls.{Outcome, outcome, openedLink, openAnswer, commandAnswer, withoutBits, clearAnswer, readPart, handAnswer}
+use Rattle.link.specs.Calls.{Outcome, outcome, openedLink, openAnswer, commandAnswer, withoutBits, clearAnswer, handAnswer}
 use Rattle.link.proofs.Answers.{done}
 use Rattle.link.proofs.Kept.{refused-open, refused-command, refused-clear}
 use Rattle.input.proofs.Cutting.{refused-receive}

@@ -2,8 +2,8 @@
 use Prim.Native.Nat.{ℕ, zero, suc, _+_, _-_, _*_, _<_, _≤_}
 use mathlib.Core.Path.{_≡_, refl, sym, ap, subst, _∙_}
 use mathlib.Core.Logic.{_↔_, _⊎_, inl, inr, ⊎-elim}
-use mathlib.Core.Bool.{Bool, true, false, not, cond, _&&_, _||_, false≢true}
-use mathlib.Core.List.{List, [], _∷_, _++_, append-assoc}
+use mathlib.Core.Bool.{Bool, true, false, not, cond, _||_, false≢true}
+use mathlib.Core.List.{List, [], _∷_, _++_}
 use native.Mathlib.Decide.{decLe}
 use native.Mathlib.Omega.{arith}
 use lib.Bits.{bitOr}
@@ -30,7 +30,7 @@ use Rattle.promises.proofs.Setting.{plain-happenings, bit-after}
 use Rattle.input.specs.Refusals.{receiveNumber}
 use Rattle.bits.proofs.Tests.{both, both-true}
 use Rattle.monitor.specs.declared.Limits.{Limits}
-use Rattle.monitor.specs.ErrorMonitors.{ErrorMonitor, suerm, aerm, alarmOf, thresholdOf, ruleOf}
+use Rattle.monitor.specs.ErrorMonitors.{ErrorMonitor, suerm, aerm, thresholdOf, ruleOf}
 use Rattle.board.specs.declared.Link.{Link}
 use Rattle.board.specs.declared.Supervision.{Supervision}
 use Rattle.board.specs.Limits.{recordOctets, monitorLimits}
@@ -45,7 +45,7 @@ use Rattle.input.specs.Receive.{ReceiveOutcome, received, receiveAnswer}
 use Rattle.input.specs.Promises.{written}
 use Rattle.input.proofs.Cutting.{answered, refused-receive, wrote}
 use Rattle.calls.specs.Call.{Call, opens, receive, command, clear, send, fill, read, readsNumber, handBack, wipe, answer, linkAfter, faults}
-use Rattle.promises.specs.History.{Front, numberOf, brought, History, Past, pastAfter, Action, books, brings, starts, stops, wipes, nothing, clears, commandAction, actionDone, actionOf, events, isEvent, Since, stopped, started, withEvents, historyNext, pastNext}
+use Rattle.promises.specs.History.{Front, numberOf, brought, History, Past, pastAfter, Action, books, brings, starts, stops, wipes, nothing, clears, commandAction, actionDone, actionOf, events, isEvent, Since, stopped, started, withEvents, historyNext}
 use Rattle.promises.specs.Demand3.{AlarmAt, other, NotStarted, AlarmIn, bitSet, bitOf, Clears, AlarmCame, Stands, Ends, Demand3}
 use Rattle.promises.proofs.Answering.{number-is, linkDone, link-done, link-refused}
 use Rattle.promises.proofs.Holding.{frontOf, Holds, can, line-limits, holds-after, answered-so, supervision-is, by-last, link-last, past-last}

@@ -4,14 +4,14 @@ use Rattle.bits.specs.Octets.{bitsOf, lineBits, octetOf, packed, wholeOctets, b
 use Rattle.framing.specs.Delimitation.{stepBit}
 use Rattle.framing.specs.Verdict.{verdictOf}
 use Rattle.monitor.specs.Monitor.{step}
-use Rattle.memory.specs.Lent.{zeros, emptyDescriptors, withDescriptor, withSlot, filled, nextSlot}
+use Rattle.memory.specs.Lent.{zeros, nextSlot}
 use Rattle.board.specs.Link.{clearArea}
 use Rattle.board.specs.Malformed.{noOnes, zeroPast, inRange, lineOut, counterOut, monitorOut, transmitterOut, openMalformed, isNew, malformed}
 use Rattle.records.specs.Happening.{noted}
-use Rattle.records.specs.Record.{recordOf, supervisionAfter, recordsOf}
+use Rattle.records.specs.Record.{supervisionAfter}
 use Rattle.units.specs.Indications.{lineReceiver, lineIndications}
-use Rattle.units.specs.Units.{goodUnit, erroredUnit, closedUnit, octetEffect, effectOf, unitMemoryAfter, happenings}
-use Rattle.reception.specs.Line.{lineHappenings, boardAfter, lineRecords}
+use Rattle.units.specs.Units.{erroredUnit, closedUnit, octetEffect, effectOf, unitMemoryAfter, happenings}
+use Rattle.reception.specs.Line.{lineHappenings, boardAfter}
 use Rattle.link.specs.Refusals.{fitsMemory, first, openNumber, commandNumber, clearNumber}
 use Rattle.link.specs.Commands.{commandOf, obeyed}
 use Rattle.link.specs.Calls.{openAnswer, commandAnswer, clearAnswer}

@@ -1,7 +1,7 @@
 -- A link that a list of calls leaves is not malformed; its front is the history's, and its monitor follows the history's events.
-use Prim.Native.Nat.{ℕ, _*_, _≤_, _<_}
+use Prim.Native.Nat.{ℕ, _*_, _≤_}
 use mathlib.Core.Path.{_≡_, refl, sym, ap, subst, _∙_}
-use mathlib.Core.Logic.{inl, inr}
+use mathlib.Core.Logic.{inl}
 use mathlib.Core.Bool.{Bool, true, false, not, cond, false≢true}
 use mathlib.Core.List.{List, [], _∷_, _++_, append-assoc, append-nil}
 use native.Mathlib.Omega.{arith}
@@ -11,7 +11,7 @@ use borrow.Author.Tests.{eqb-true, eqb-false, ltb-false, not-false}
 use Rattle.bits.proofs.Machines.{run-append}
 use Rattle.readback.proofs.Sends.{sends-in-use}
 use Rattle.transmission.proofs.Line.{few-two, two-kept}
-use Rattle.transmission.proofs.Calls.{accepted, put}
+use Rattle.transmission.proofs.Calls.{accepted}
 use Rattle.transmission.specs.Transmission.{Sending, send as sending, fill as filling, answer as transmitted, sentOn, linkAfter as linksSent, Accepted, more as one-call}
 use Rattle.output.specs.Output.{OutputOutcome}
 use Rattle.board.specs.With.{withReception, withSupervision}
@@ -34,7 +34,7 @@ use Rattle.framing.specs.Representation.{decode}
 use Rattle.monitor.specs.declared.Mode.the-variants.{Off, Failure, Alignment, Idle}
 use Rattle.monitor.specs.declared.Monitor.{Monitor}
 use Rattle.monitor.specs.declared.Limits.{Limits}
-use Rattle.monitor.specs.ErrorMonitors.{ErrorMonitor, suerm, aerm}
+use Rattle.monitor.specs.ErrorMonitors.{suerm, aerm}
 use Rattle.monitor.specs.History.{OffOrIdle, monitorAfter}
 use Rattle.monitor.proofs.Alarms.{Follows, follows-start, follows-after, off-or-idle-stays}
 use Rattle.board.specs.declared.Settings.{Settings}
@@ -56,8 +56,8 @@ use Rattle.link.specs.Commands.{commandOf, obeyed}
 use Rattle.link.specs.Calls.{openedLink, Outcome, openAnswer, withoutBits}
 use Rattle.link.proofs.Faults.{none}
 use Rattle.calls.specs.Call.{Call, opens, receive, command, clear, send, fill, read, readsNumber, handBack, wipe, answer, linkAfter, faults}
-use Rattle.promises.specs.History.{Front, newFront, linkOfFront, numberOf, frontDone, frontNext, Action, books, brings, starts, stops, wipes, nothing, clears, commandAction, actionDone, actionOf, events, Since, stopped, started, History, historyNext, Past, newPast, pastNext, pastAfter, withEvents, brought}
-use Rattle.promises.proofs.Answering.{number-is, linkDone, link-done, link-refused}
+use Rattle.promises.specs.History.{Front, linkOfFront, numberOf, frontDone, frontNext, nothing, commandAction, actionDone, actionOf, events, Since, stopped, started, historyNext, Past, newPast, pastNext, pastAfter, withEvents, brought}
+use Rattle.promises.proofs.Answering.{number-is, link-done, link-refused}
 
 -- ---- the monitor and the events of the history
 abbrev pub Agrees : Limits → Since → Monitor → Type 0

@@ -1,5 +1,4 @@
--- The cases, and demand 3, shown.
-pub mod Cases
+-- Demand 3, shown.
 pub mod Answering
 pub mod Holding
 pub mod EventBits

@@ -1,11 +1,11 @@
 -- An alarm that stands: it came in the last call, or stood before and the last call does not clear it.
 use mathlib.Core.Path.{_≡_, refl, sym, ap, subst, _∙_}
-use mathlib.Core.Logic.{_↔_, _⊎_, inl, inr, ⊎-elim}
+use mathlib.Core.Logic.{_⊎_, inl, inr}
 use mathlib.Core.List.{List, [], _∷_, _++_, append-assoc}
 use Rattle.monitor.specs.ErrorMonitors.{ErrorMonitor}
 use Rattle.calls.specs.Call.{Call}
-use Rattle.promises.specs.History.{Action, actionOf, History, Past, pastAfter}
-use Rattle.promises.specs.Demand3.{AlarmIn, Clears, AlarmCame, Stands}
+use Rattle.promises.specs.History.{Action, actionOf, pastAfter}
+use Rattle.promises.specs.Demand3.{AlarmIn, AlarmCame}
 use Rattle.promises.proofs.Splits.{not-nil, last-of, ended}
 
 -- what is said of the action of each call after one in which an alarm came, whatever `Off` says of it

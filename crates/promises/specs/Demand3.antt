@@ -6,7 +6,7 @@ use Prim.Native.Nat.{ℕ, suc, _+_, _*_, _/_, _^_, _<_}
 use mathlib.Core.Path.{_≡_}
 use mathlib.Core.Logic.{_↔_}
 use mathlib.Core.Bool.{Bool, true}
-use mathlib.Core.List.{List, [], _∷_, _++_}
+use mathlib.Core.List.{List, _∷_, _++_}
 use lib.ListN.{length, getD, take}
 use Rattle.bits.specs.Octets.{odd}
 use Rattle.monitor.specs.Stretch.{First}
@@ -19,7 +19,7 @@ use Rattle.board.specs.Limits.{recordOctets}
 use Rattle.records.specs.declared.Happening.{Happening}
 use Rattle.input.specs.Receive.{receiveAnswer}
 use Rattle.calls.specs.Call.{Call, answer, linkAfter}
-use Rattle.promises.specs.History.{Front, numberOf, brought, Action, books, brings, starts, stops, wipes, nothing, clears, actionOf, events, isEvent, Since, started, History, pastAfter}
+use Rattle.promises.specs.History.{numberOf, brought, Action, books, brings, starts, stops, wipes, nothing, clears, actionOf, events, isEvent, started, History, pastAfter}
 
 -- ---- the alarm
 -- Thing k of those that a call brings is the event at which the alarm of monitor x comes: x was started, nobody has stopped it since, and of the

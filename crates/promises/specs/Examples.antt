@@ -1,10 +1,8 @@
 -- Examples of the history, by computation: what a reader has to believe of demand 3's definitions. The proofs are in proofs/Examples.antt.
-use Prim.Native.Nat.{ℕ}
 use mathlib.Core.Path.{_≡_}
 use mathlib.Core.Bool.{Bool, true, false}
-use mathlib.Core.List.{List, [], _∷_, _++_}
+use mathlib.Core.List.{List, [], _∷_}
 use lib.ListN.{replicate}
-use Rattle.bits.specs.Format.{basic}
 use Rattle.monitor.specs.ErrorMonitors.{suerm, aerm}
 use Rattle.board.specs.declared.Settings.{Settings}
 use Rattle.board.specs.declared.events.Event.the-variants.{Suer}

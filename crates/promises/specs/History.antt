@@ -14,7 +14,7 @@ use Rattle.board.specs.declared.Settings.{Settings}
 use Rattle.board.specs.declared.UnitState.{UnitState}
 use Rattle.board.specs.declared.Link.{Link}
 use Rattle.board.specs.Limits.{monitorLimits}
-use Rattle.board.specs.Link.{newLink, newSettings, newUnits, newSupervision, newTransmitter}
+use Rattle.board.specs.Link.{newSettings, newUnits, newSupervision, newTransmitter}
 use Rattle.records.specs.declared.Happening.{Happening}
 use Rattle.units.specs.Indications.{lineReceiver, lineIndications}
 use Rattle.units.specs.Units.{unitMemory, unitMemoryAfter, happenings}

@@ -1,5 +1,4 @@
--- The table of cases, lists of calls, and demand 3.
-pub mod Cases
+-- Lists of calls, and demand 3.
 pub mod History
 pub mod Demand3
 pub mod Examples

@@ -1,1 +1,1 @@
-// What is promised over whole calls: the cases of document 01's table. There is no code here.
+// What is promised over lists of calls: demand 3. There is no code here.
