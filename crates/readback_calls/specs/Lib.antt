@@ -1,0 +1,3 @@
+-- Read-back over lists of calls.
+pub mod Sender
+pub mod ReadBack
