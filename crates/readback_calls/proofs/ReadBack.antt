@@ -2,10 +2,10 @@
 use Prim.Native.Nat.{ℕ, _+_, _*_, _≤_}
 use mathlib.Core.Path.{_≡_, refl, sym, ap, ap₂, subst, _∙_}
 use mathlib.Core.Bool.{Bool, true, false}
-use mathlib.Core.List.{List, [], _∷_, _++_, map, append-assoc}
+use mathlib.Core.List.{List, [], _∷_, _++_, map, append-assoc, append-cancel-right}
 use native.Mathlib.Omega.{arith}
-use lib.ListN.{length, take, drop, length-append, length-drop}
-use lib.Seq.{append-snoc, take-at, drop-at, drop-append-le}
+use lib.ListN.{length, drop, length-append, length-drop}
+use lib.Seq.{append-snoc, drop-at, drop-append-le}
 use Rattle.bits.specs.Format.{basic}
 use Rattle.bits.specs.Machine.{outs}
 use Rattle.bits.specs.Octets.{bitsOf, lineBits}
@@ -120,12 +120,6 @@ module _ (M : ℕ) (heard line : List ℕ) (before : List Bool) (content : List 
       (cut .front ∙ append-assoc (drop n before) U (cut .between)) few-behind
       (sym (run-append (next M) (lineBits (x .lead)) (drop n before) newReceiver) ∙ x .flag-read) room
 
--- without their last octet, equal octets are equal
-fronts : (xs ys : List ℕ) (a b : ℕ) → xs ++ (a ∷ []) ≡ ys ++ (b ∷ []) → xs ≡ ys
-fronts xs ys a b e =
-    sym (take-at xs (a ∷ []) (length xs) refl) ∙ ap (take (length xs)) e
-    ∙ take-at ys (b ∷ []) (length xs) (omega (arith, ap length e, length-append xs (a ∷ []), length-append ys (b ∷ [])))
-
 -- ---- the booking that receives
 module _ (r : Settings) (ds : List Call) (v : Receives r ds) where
   abbrev L : Link
@@ -173,7 +167,7 @@ read-back s cs r ds earlier later content sent v e ok mid last pool descriptors 
     let before = ahead (sendingsOf s cs) earlier in
     let w = waitingBits (linkAfter (opening s ∷ cs)) in
     let same : bookingAfter (opening r ∷ ds) .octets ++ mid ≡ x .lead ++ x .early =
-    fronts (bookingAfter (opening r ∷ ds) .octets ++ mid) (x .lead ++ x .early) last last
+    append-cancel-right (bookingAfter (opening r ∷ ds) .octets ++ mid) (x .lead ++ x .early) (last ∷ [])
     (append-assoc (bookingAfter (opening r ∷ ds) .octets) mid (last ∷ []) ∙ x .given ∙ sym (append-assoc (x .lead) (x .early) (last ∷ []))) in
     taken-so r ds v mid last pool descriptors records c content (v .filter-off) ok (c .free)
     (record {

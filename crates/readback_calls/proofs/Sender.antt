@@ -16,9 +16,9 @@ use Rattle.board.specs.Link.{newLink}
 use Rattle.board.specs.With.{withSender}
 use Rattle.link.specs.Refusals.{first}
 use Rattle.output.specs.Refusals.{sendNumber, fillNumber}
-use Rattle.output.specs.Output.{OutputOutcome, sender, unitOut, fillOut}
-use Rattle.transmission.specs.Transmission.{Sending, send as sending, fill as filling, answer as transmitted, sentOn, wentOut, linkAfter as linkSent, octetsSent, Accepted, none, more}
-use Rattle.transmission.proofs.Calls.{bitsOut, put, Put, accepted, octets-out, then-is}
+use Rattle.output.specs.Output.{OutputOutcome, notSent, sender, unitOut, fillOut}
+use Rattle.transmission.specs.Transmission.{Sending, areaOf, send as sending, fill as filling, answer as transmitted, sentOn, wentOut, linkAfter as linkSent, octetsSent, Accepted, none, more}
+use Rattle.transmission.proofs.Calls.{bitsOut, numberOf, put, Put, accepted, octets-out, then-is}
 use Rattle.transmission.proofs.Faults.{refused-send, refused-fill}
 use Rattle.transmission.proofs.Line.{few-two, transmitter-line}
 use Rattle.calls.specs.Call.{Call, opens, receive, command, clear, send, fill, read, readsNumber, handBack, wipe, linkAfter, faults}
@@ -64,20 +64,11 @@ module _ (l k : Link) (same : l .transmitter ≡ k .transmitter) where
     sent-then : sentOn l x .transmitter ≡ sentOn k x .transmitter
     sent-then = then-is l x here ∙ same-then x ∙ sym (then-is k x there)
 
--- a refused one puts nothing out
-refused-out : (l : Link) (x : Sending) → (transmitted l x .number ≡ 0 → ⊥) → wentOut l x ≡ []
+-- a refused one puts nothing out and leaves the link as it is
+is-refused : (l : Link) (x : Sending) → (transmitted l x .number ≡ 0 → ⊥) → transmitted l x ≡ notSent (numberOf l x) l (areaOf x)
 unfolding sendNumber fillNumber
-refused-out l (sending content output) z =
-    ap (λ (o : OutputOutcome). take (o .count) (o .output)) (refused-send l content output (λ q. z (number-is l (send content output) ∙ q)))
-refused-out l (filling output) z =
-    ap (λ (o : OutputOutcome). take (o .count) (o .output)) (refused-fill l output (λ q. z (number-is l (fill output) ∙ q)))
-
-refused-then : (l : Link) (x : Sending) → (transmitted l x .number ≡ 0 → ⊥) → sentOn l x ≡ l
-unfolding sendNumber fillNumber
-refused-then l (sending content output) z =
-    ap (λ (o : OutputOutcome). o .link) (refused-send l content output (λ q. z (number-is l (send content output) ∙ q)))
-refused-then l (filling output) z =
-    ap (λ (o : OutputOutcome). o .link) (refused-fill l output (λ q. z (number-is l (fill output) ∙ q)))
+is-refused l (sending content output) z = refused-send l content output (λ q. z (number-is l (send content output) ∙ q))
+is-refused l (filling output) z = refused-fill l output (λ q. z (number-is l (fill output) ∙ q))
 
 -- what its call is
 accepted-in : (l : Link) (x : Sending) → acceptedIn l (callOf x) ≡ cond (eqb (transmitted l x .number) 0) (x ∷ []) []
@@ -149,8 +140,8 @@ module _ (l k : Link) (v : Live l) (u : Live k) (same : l .transmitter ≡ k .tr
           (ap (λ (m : Link). m .transmitter) (next-is l x) ∙ sent-then l k same x v u z))
       go false e =
           let z = eqb-false _ 0 e in
-          nothing-sent l k (callOf x) cs (accepted-in l x ∙ ap (λ (b : Bool). cond b (x ∷ []) []) e) (put-out l x ∙ refused-out l x z)
-          (rest k u (ap (λ (m : Link). m .transmitter) (next-is l x ∙ refused-then l x z) ∙ same))
+          nothing-sent l k (callOf x) cs (accepted-in l x ∙ ap (λ (b : Bool). cond b (x ∷ []) []) e) (put-out l x ∙ ap (λ (o : OutputOutcome). take (o .count) (o .output)) (is-refused l x z))
+          (rest k u (ap (λ (m : Link). m .transmitter) (next-is l x ∙ ap (λ (o : OutputOutcome). o .link) (is-refused l x z)) ∙ same))
 
   any-call : (c : Call) → isWipe c ≡ false → Rest l c cs → Runs l k (c ∷ cs)
   any-call (opens s pool descriptors) w rest = quiet-call (opens s pool descriptors) refl refl refl w rest

@@ -120,10 +120,10 @@ settings-kept (c ∷ cs) l o e =
     (rest .0, rest .1 ∙ k .settings)
 
 -- ---- the opening
-module _ (s : Settings) (range : inRange basic s ≡ true) where
-  all-zero : (n : ℕ) → zeros (replicate n 0) ≡ true
-  all-zero n = zeros-exact (replicate n 0) .1 (ap (λ (k : ℕ). replicate {A = ℕ} k 0) (sym (length-replicate {A = ℕ} n 0)))
+all-zero : (n : ℕ) → zeros (replicate n 0) ≡ true
+all-zero n = zeros-exact (replicate n 0) .1 (ap (λ (k : ℕ). replicate {A = ℕ} k 0) (sym (length-replicate {A = ℕ} n 0)))
 
+module _ (s : Settings) (range : inRange basic s ≡ true) where
   no-fault : first (faults newLink (opening s)) ≡ 0
   unfolding first
   no-fault =
