@@ -29,10 +29,12 @@ use Rattle.link.specs.Commands.{commandOf, obeyed}
 use Rattle.calls.specs.Call.{Call, opens, receive, command, clear, send, fill, read, readsNumber, handBack, wipe, linkAfter}
 use Rattle.promises.specs.History.{Front, newFront, linkOfFront, numberOf, frontDone, brought}
 use Rattle.promises.proofs.Holding.{frontOf, by-last}
+use Rattle.readback.proofs.Closing.{by-bits}
+use Rattle.readback.proofs.Handing.{foundIn, found-line}
 use Rattle.bookings.specs.Booking.{Booking, newBooking, inputsIn, inputOfCommand, bookingDone, Course, courseNext, courseAfter, bookingAfter}
 use Rattle.bookings.specs.History.{goodUnits, unitsOf, Shown, shown, kindsShown, fatesTold, isOver, isDropped, isLost, howMany, round, fatesAfter, History, Histories}
 use Rattle.bookings.proofs.Courses.{course-last, course-link}
-use Rattle.bookings.proofs.Inputs.{kinds-append, fates-append, units-append, good-append, map-append, foundAll, line-found, line-receiver, countAll, Tells, tells-all}
+use Rattle.bookings.proofs.Inputs.{kinds-append, fates-append, units-append, good-append, map-append, countAll, Tells, tells-all}
 
 -- ---- what holds after each call
 pub record Told (f : Front) (b : Booking) : Type 0 where
@@ -66,21 +68,21 @@ module _ (f : Front) (b : Booking) (t : Told f b) (octets pool descriptors : Lis
   abbrev ys : List FilterInput
   ys = inputsIn (f .settings) o ms
 
-  said : Tells (f .settings) o (foundAll ms) ys (unitMemoryAfter (f .settings) o ms) (happenings (f .settings) o ms)
+  said : Tells (f .settings) o (foundIn ms) ys (unitMemoryAfter (f .settings) o ms) (happenings (f .settings) o ms)
   said = tells-all (f .settings) ms o
 
   abbrev fs : List Finding
   fs = findings M (f .receiver) (lineBits octets)
 
-  all-found : foundAll ms ≡ fs
-  all-found = line-found M octets (f .receiver)
+  all-found : foundIn ms ≡ fs
+  all-found = found-line M octets (f .receiver)
 
   told-received : (records : List ℕ) → Told (frontDone f (receive octets pool descriptors records)) (bookingDone f b (receive octets pool descriptors records))
   unfolding memoryAfter fates
   told-received records =
       record {
         receiver =
-            line-receiver M octets (f .receiver) ∙ ap (λ (r : Receiver). receiverAfter M r (lineBits octets)) (t .receiver)
+            by-bits M octets (f .receiver) ∙ ap (λ (r : Receiver). receiverAfter M r (lineBits octets)) (t .receiver)
             ∙ sym (run-append (next M) (lineBits (b .octets)) (lineBits octets) newReceiver) ∙ ap (receiverAfter M newReceiver) (sym (line-append (b .octets) octets));
         found =
             ap₂ (λ (x y : List Finding). x ++ y) (t .found) (ap (λ (r : Receiver). findings M r (lineBits octets)) (t .receiver))

@@ -4,13 +4,13 @@ use mathlib.Core.Path.{_≡_, refl, sym, ap, ap₂, _∙_}
 use mathlib.Core.Bool.{Bool, true, false, _&&_, cond}
 use mathlib.Core.List.{List, [], _∷_, _++_, map, append-assoc, append-nil}
 use lib.Dec.{eqb}
-use Rattle.bits.specs.Octets.{bitsOf, lineBits, wholeOctets}
+use Rattle.bits.specs.Octets.{wholeOctets}
 use Rattle.bits.specs.Format.{basic}
 use Rattle.bits.specs.Machine.{run, outs}
 use Rattle.bits.proofs.Machines.{run-append, outs-append}
 use Rattle.framing.specs.declared.Verdict.{Verdict}
 use Rattle.framing.specs.declared.Verdict.the-variants.{Short, NotWhole, CheckWrong, Good}
-use Rattle.framing.specs.Delimitation.{Receiver, Finding, closed, abort, long, next, finds, receiverAfter, findings}
+use Rattle.framing.specs.Delimitation.{Finding, closed, abort, long}
 use Rattle.framing.specs.Verdict.{verdictOf}
 use Rattle.filter.specs.declared.Fate.{Fate}
 use Rattle.filter.specs.declared.Fate.the-variants.{HandedOver, Dropped, Lost}
@@ -24,9 +24,10 @@ use Rattle.board.specs.declared.Counts.{Counts}
 use Rattle.records.specs.declared.RecordKind.{RecordKind}
 use Rattle.records.specs.declared.RecordKind.the-variants as kinds
 use Rattle.records.specs.declared.Happening.{Happening}
-use Rattle.units.specs.Indications.{Indication, found, octetEnd, octetReceiver, octetIndications, lineReceiver, lineIndications}
+use Rattle.units.specs.Indications.{Indication, found, octetEnd}
 use Rattle.units.specs.Units.{UnitMemory, unitMemory, Effect, isFree, counted, byFate, tickOf, goodUnit, erroredUnit, closedUnit, octetEffect, effectOf, nextUnitMemory, happens, unitMemoryAfter, happenings}
 use Rattle.units.proofs.UnitStates.{each-cond}
+use Rattle.readback.proofs.Handing.{foundIn}
 use Rattle.bookings.specs.Booking.{toFilter, inputOf, inputsIn}
 use Rattle.bookings.specs.History.{ifGood, goodUnits, unitsOf, Shown, byFate as by-fate, shownAs, shown, kindShown, kindsShown, fateTold, fatesTold}
 
@@ -60,42 +61,13 @@ map-append f [] ys = refl
 map-append f (x ∷ xs) ys = ap (λ (l : List Shown). f x ∷ l) (map-append f xs ys)
 
 -- ---- the findings of indications
-abbrev foundIn : Indication → List Finding
-foundIn (found f) = f ∷ []
-foundIn octetEnd = []
+abbrev foundOne : Indication → List Finding
+foundOne (found f) = f ∷ []
+foundOne octetEnd = []
 
-unfoldable pub foundAll : List Indication → List Finding
-foundAll [] = []
-foundAll (m ∷ ms) = foundIn m ++ foundAll ms
-
-found-append : (xs ys : List Indication) → foundAll (xs ++ ys) ≡ foundAll xs ++ foundAll ys
-unfolding foundAll
-found-append [] ys = refl
-found-append (x ∷ xs) ys = ap (λ (l : List Finding). foundIn x ++ l) (found-append xs ys) ∙ sym (append-assoc (foundIn x) (foundAll xs) (foundAll ys))
-
-found-map : (fs : List Finding) → foundAll (map found fs) ≡ fs
-unfolding foundAll
-found-map [] = refl
-found-map (f ∷ fs) = ap (λ (l : List Finding). f ∷ l) (found-map fs)
-
-found-octet : (M : ℕ) (s : Receiver) (x : ℕ) → foundAll (octetIndications M s x) ≡ findings M s (bitsOf 8 x)
-unfolding foundAll
-found-octet M s x =
-    found-append (map found (findings M s (bitsOf 8 x))) (octetEnd ∷ []) ∙ append-nil (foundAll (map found (findings M s (bitsOf 8 x)))) ∙ found-map (findings M s (bitsOf 8 x))
-
--- octets in a row are their bits in a row
-pub line-found : (M : ℕ) (octets : List ℕ) (s : Receiver) → foundAll (lineIndications M s octets) ≡ findings M s (lineBits octets)
-unfolding lineIndications lineBits foundAll
-line-found M [] s = refl
-line-found M (x ∷ xs) s =
-    found-append (octetIndications M s x) (outs (octetReceiver M) (octetIndications M) (octetReceiver M s x) xs)
-    ∙ ap₂ (λ (a b : List Finding). a ++ b) (found-octet M s x) (line-found M xs (octetReceiver M s x))
-    ∙ sym (outs-append (next M) (finds M) (bitsOf 8 x) (lineBits xs) s)
-
-pub line-receiver : (M : ℕ) (octets : List ℕ) (s : Receiver) → lineReceiver M s octets ≡ receiverAfter M s (lineBits octets)
-unfolding lineReceiver lineBits
-line-receiver M [] s = refl
-line-receiver M (x ∷ xs) s = line-receiver M xs (octetReceiver M s x) ∙ sym (run-append (next M) (bitsOf 8 x) (lineBits xs) s)
+one-more : (m : Indication) (ms : List Indication) → foundOne m ++ foundIn ms ≡ foundIn (m ∷ ms)
+one-more (found f) ms = refl
+one-more octetEnd ms = refl
 
 -- ---- one indication
 by-its-fate : (P : Effect → Type 0) (f : Fate) {a b c : Effect} → (f ≡ HandedOver → P a) → (f ≡ Dropped → P b) → (f ≡ Lost → P c) → P (byFate f a b c)
@@ -133,7 +105,7 @@ module _ (s : Settings) where
     pub filtered : unitsOf xs ≡ goodUnits fs
 
   abbrev TellsOf : UnitMemory → Indication → Effect → Type 0
-  TellsOf o m e = Tells o (foundIn m) (inputOf o m) (e .unitMemory) (e .happenings)
+  TellsOf o m e = Tells o (foundOne m) (inputOf o m) (e .unitMemory) (e .happenings)
 
   -- a good unit, by its fate
   module _ (o : UnitMemory) (u : List Bool) (v : verdictOf basic u ≡ Good) where
@@ -185,7 +157,7 @@ module _ (s : Settings) where
         rw v (tells-errored statuses.CheckWrong kinds.CheckWrong (ap (λ (w : Verdict). shownAs w ∷ []) (sym v)) refl (ap (ifGood u) (sym v)))
     tells-closed Good v = rw v (tells-good o u v)
 
-  pub tells : (o : UnitMemory) (m : Indication) → Tells o (foundIn m) (inputOf o m) (nextUnitMemory s o m) (happens s o m)
+  pub tells : (o : UnitMemory) (m : Indication) → Tells o (foundOne m) (inputOf o m) (nextUnitMemory s o m) (happens s o m)
   unfolding effectOf octetEffect kindsShown fatesTold unitsOf goodUnits
   tells o (found (closed u)) = tells-closed o u (verdictOf basic u) refl
   tells o (found abort) = record { memory = refl; fated = refl; counts = refl; recorded = refl; filtered = refl }
@@ -201,8 +173,8 @@ module _ (s : Settings) where
       }
 
   -- ---- indications in a row
-  pub tells-all : (ms : List Indication) (o : UnitMemory) → Tells o (foundAll ms) (inputsIn s o ms) (unitMemoryAfter s o ms) (happenings s o ms)
-  unfolding foundAll inputsIn unitMemoryAfter happenings kindsShown fatesTold unitsOf goodUnits
+  pub tells-all : (ms : List Indication) (o : UnitMemory) → Tells o (foundIn ms) (inputsIn s o ms) (unitMemoryAfter s o ms) (happenings s o ms)
+  unfolding inputsIn unitMemoryAfter happenings kindsShown fatesTold unitsOf goodUnits
   tells-all [] o = record { memory = refl; fated = refl; counts = refl; recorded = refl; filtered = refl }
   tells-all (m ∷ ms) o =
       let a = tells o m in
@@ -222,7 +194,7 @@ module _ (s : Settings) where
             b .counts ∙ ap (λ (x : Counts). countAll x (fatesTold hs′)) (a .counts)
             ∙ sym (run-append (λ c f. counted f c) (fatesTold hs) (fatesTold hs′) (o .units .counts)) ∙ ap (countAll (o .units .counts)) (sym (fates-append hs hs′));
         recorded =
-            kinds-append hs hs′ ∙ ap₂ (λ (x y : List Shown). x ++ y) (a .recorded) (b .recorded) ∙ sym (map-append shown (foundIn m) (foundAll ms));
+            kinds-append hs hs′ ∙ ap₂ (λ (x y : List Shown). x ++ y) (a .recorded) (b .recorded) ∙ sym (map-append shown (foundOne m) (foundIn ms)) ∙ ap (map shown) (one-more m ms);
         filtered =
-            units-append (inputOf o m) ys ∙ ap₂ (λ (x y : List (List ℕ)). x ++ y) (a .filtered) (b .filtered) ∙ sym (good-append (foundIn m) (foundAll ms));
+            units-append (inputOf o m) ys ∙ ap₂ (λ (x y : List (List ℕ)). x ++ y) (a .filtered) (b .filtered) ∙ sym (good-append (foundOne m) (foundIn ms)) ∙ ap goodUnits (one-more m ms);
       }

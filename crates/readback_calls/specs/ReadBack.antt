@@ -7,19 +7,17 @@ use mathlib.Core.List.{List, [], _∷_, _++_, map}
 use lib.ListN.{length, drop}
 use Rattle.bits.specs.Format.{basic}
 use Rattle.bits.specs.Octets.{lineBits}
-use Rattle.framing.specs.Delimitation.{Finding, closed, newReceiver, flagged, receiverAfter}
+use Rattle.framing.specs.Delimitation.{closed, newReceiver, flagged, receiverAfter}
 use Rattle.filter.specs.declared.Fate.{Fate}
 use Rattle.filter.specs.declared.Fate.the-variants.{HandedOver, Lost}
 use Rattle.filter.specs.History.{FilterInput, good, command-4}
 use Rattle.sending.specs.Stuffing.{unitBits, unitLine}
 use Rattle.sending.specs.Stream.{flags, flagsBefore, unitsLine}
 use Rattle.board.specs.declared.Settings.{Settings}
-use Rattle.board.specs.declared.Link.{Link}
 use Rattle.board.specs.Malformed.{inRange}
-use Rattle.units.specs.Units.{UnitMemory, isFree}
+use Rattle.units.specs.Units.{isFree}
 use Rattle.reception.specs.Line.{boardAfter}
-use Rattle.link.specs.Held.{Held}
-use Rattle.input.specs.Receive.{ReceiveOutcome, boardOf, receiveAnswer}
+use Rattle.input.specs.Receive.{boardOf, receiveAnswer}
 use Rattle.input.specs.Promises.{written}
 use Rattle.transmission.specs.Transmission.{Sending, waitingBits, fillsFirst, contents}
 use Rattle.readback.specs.SlotRing.{unitOctets}

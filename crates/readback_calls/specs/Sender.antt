@@ -12,7 +12,7 @@ use Rattle.sending.specs.Stream.{streamLine}
 use Rattle.board.specs.declared.Settings.{Settings}
 use Rattle.board.specs.declared.Link.{Link}
 use Rattle.board.specs.Malformed.{inRange}
-use Rattle.output.specs.Output.{OutputOutcome, sendAnswer, fillAnswer}
+use Rattle.output.specs.Output.{sendAnswer, fillAnswer}
 use Rattle.transmission.specs.Transmission.{Sending, waitingBits, fillsFirst, contents}
 use Rattle.transmission.specs.Transmission.{send as sending, fill as filling}
 use Rattle.calls.specs.Call.{Call, opens, receive, command, clear, send, fill, read, readsNumber, handBack, wipe, answer, linkAfter}
