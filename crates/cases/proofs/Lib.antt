@@ -4,3 +4,4 @@ pub mod Boards
 pub mod Findings
 pub mod Filtering
 pub mod Cases
+pub mod Useless

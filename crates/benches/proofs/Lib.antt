@@ -1,0 +1,5 @@
+-- Both benches alike, shown.
+pub mod Shown
+pub mod Seen
+pub mod Bench
+pub mod Benches

@@ -1,0 +1,2 @@
+-- Both benches alike.
+pub mod Benches
