@@ -39,6 +39,7 @@ pub record Openable (l : Link) (s : Settings) (pool descriptors : List ℕ) : Ty
   pub good : malformed l ≡ false
   pub closed : l .opened ≡ false
   pub range : inRange basic s ≡ true
+  pub fits : fitsMemory basic (s .k) pool descriptors ≡ true
   pub octets : length pool ≡ 280 * s .k
   pub words : length descriptors ≡ 2 * s .k
   pub clean-pool : zeros pool ≡ true
@@ -59,6 +60,7 @@ module _ (l : Link) (s : Settings) (pool descriptors : List ℕ) where
         good = n1 .0;
         closed = n3 .0;
         range = not-false _ (n4 .0);
+        fits = not-false _ (n5 .0);
         octets = eqb-true _ _ (fits .0);
         words = eqb-true _ _ (fits .1);
         clean-pool = clean .0;

@@ -16,7 +16,7 @@ use Rattle.board.specs.declared.Link.{Link}
 use Rattle.board.specs.Malformed.{malformed}
 use Rattle.link.specs.Refusals.{first, fitsMemory, openNumber, readNumber}
 use Rattle.link.specs.Calls.{Outcome, outcome, openedLink, openAnswer, commandAnswer, readPart, handAnswer, clearAnswer}
-use Rattle.link.specs.Promises.{RefusedOpen, RefusedCommand, RefusedRead, RefusedHandBack, WipeLeavesNothing, OpensOnWiped, HandedBackIsEmpty, RefusedClear}
+use Rattle.link.specs.Promises.{RefusedOpen, RefusedCommand, RefusedRead, RefusedHandBack, WipeLeavesNothing, OpensExactly, HandedBackIsEmpty, RefusedClear}
 use Rattle.link.proofs.Answers.{done, refused, openable, readable}
 
 pub refused-open : RefusedOpen
@@ -54,10 +54,14 @@ open-number l s pool descriptors = go (eqb n 0) refl
     go true e = rw e (sym (eqb-true n 0 e))
     go false e = rw e
 
-pub opens-on-wiped : OpensOnWiped
-opens-on-wiped l s pool descriptors e =
-    let ok = openable l s pool descriptors (sym (open-number l s pool descriptors) ∙ e) in
-    (ok .clean-pool, ok .clean-words)
+pub opens-exactly : OpensExactly
+unfolding openNumber first
+opens-exactly l s pool descriptors = (
+  λ e.
+      let ok = openable l s pool descriptors (sym (open-number l s pool descriptors) ∙ e) in
+      (ok .good, ok .closed, ok .range, ok .fits, ok .clean-pool, ok .clean-words),
+  λ p. open-number l s pool descriptors ∙ rw (p .0, p .1, p .2, p .3, p .4, p .5),
+)
 
 -- an open answered 0 gives the booking's link and empty slots
 pub opened : (l : Link) (s : Settings) (pool descriptors : List ℕ) → openAnswer l s pool descriptors .number ≡ 0

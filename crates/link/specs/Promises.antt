@@ -1,14 +1,16 @@
 -- What is promised of the calls on one link and its memory. The proofs are in proofs/Faults.antt and proofs/Kept.antt.
 use Prim.Native.Nat.{ℕ}
 use mathlib.Core.Path.{_≡_}
-use mathlib.Core.Bool.{Bool, true}
+use mathlib.Core.Bool.{Bool, true, false}
 use mathlib.Core.List.{List, [], _∷_, _++_}
 use mathlib.Core.Logic.{_↔_}
+use Rattle.bits.specs.Format.{basic}
 use Rattle.memory.specs.Lent.{zeros}
 use Rattle.board.specs.declared.Settings.{Settings}
 use Rattle.board.specs.declared.Link.{Link}
 use Rattle.board.specs.Link.{newLink}
-use Rattle.link.specs.Refusals.{Fault, fault, first, openFaults, commandFaults, readFaults, openNumber, commandNumber, readNumber, clearFaults, clearNumber}
+use Rattle.board.specs.Malformed.{inRange, malformed}
+use Rattle.link.specs.Refusals.{Fault, fault, first, fitsMemory, openFaults, commandFaults, readFaults, openNumber, commandNumber, readNumber, clearFaults, clearNumber}
 use Rattle.link.specs.Tables.{noneFound, rising}
 use Rattle.link.specs.Calls.{outcome, openAnswer, wipeAnswer, commandAnswer, readPart, handAnswer, clearAnswer}
 
@@ -61,11 +63,17 @@ WipeLeavesNothing =
     (octets words : List ℕ)
     → (wipeAnswer octets words .link ≡ newLink) × (zeros (wipeAnswer octets words .octets) ≡ true) × (zeros (wipeAnswer octets words .words) ≡ true)
 
--- D1.4: a booking does not open on memory that isn't wiped.
-abbrev pub OpensOnWiped : Type 0
-OpensOnWiped =
-    (l : Link) (s : Settings) (pool descriptors : List ℕ) → openAnswer l s pool descriptors .number ≡ 0
-    → (zeros pool ≡ true) × (zeros descriptors ≡ true)
+-- D1.4: a booking opens exactly if the link is the new one, the settings are in range, the memory is that of its slots and all of it is zero.
+abbrev pub OpensExactly : Type 0
+OpensExactly =
+    (l : Link) (s : Settings) (pool descriptors : List ℕ)
+    → (openAnswer l s pool descriptors .number ≡ 0)
+    ↔ ((malformed l ≡ false)
+    × (l .opened ≡ false)
+    × (inRange basic s ≡ true)
+    × (fitsMemory basic (s .k) pool descriptors ≡ true)
+    × (zeros pool ≡ true)
+    × (zeros descriptors ≡ true))
 
 -- After a slot is handed back, reading it is refused with 13.
 abbrev pub HandedBackIsEmpty : Type 0
