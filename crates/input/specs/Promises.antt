@@ -2,7 +2,7 @@
 use Prim.Native.Nat.{ℕ, _*_}
 use mathlib.Core.Path.{_≡_}
 use mathlib.Core.Bool.{true}
-use mathlib.Core.List.{List, [], _++_}
+use mathlib.Core.List.{List, []}
 use lib.ListN.{take}
 use Rattle.board.specs.Limits.{recordOctets}
 use Rattle.board.specs.declared.Settings.{Settings}
@@ -34,17 +34,6 @@ RefusedReceive =
 -- the records that a call wrote
 abbrev pub written : ReceiveOutcome → List ℕ
 written o = take (recordOctets * o .count) (o .records)
-
--- Receiving a line in one call, or a first part and then the rest with the same memory, gives the same link, the same memory and the
--- same records in order.
-abbrev pub LineCut : Type 0
-LineCut =
-    (l : Link) (xs ys pool descriptors records records₁ records₂ : List ℕ)
-    → let one = receiveAnswer l (xs ++ ys) pool descriptors records in
-    let first = receiveAnswer l xs pool descriptors records₁ in
-    let second = receiveAnswer (first .link) ys (first .pool) (first .descriptors) records₂ in
-    one .number ≡ 0 → first .number ≡ 0 → second .number ≡ 0
-    → (one .link ≡ second .link) × (one .pool ≡ second .pool) × (one .descriptors ≡ second .descriptors) × (written one ≡ written first ++ written second)
 
 -- "The good count is their sum modulo 65,536": so at opening, and each call keeps it.
 abbrev pub SumAtOpen : Type 0

@@ -11,7 +11,7 @@ use Rattle.units.specs.Indications.{lineReceiver, lineIndications}
 use Rattle.units.specs.Units.{unitMemoryAfter, happenings}
 use Rattle.reception.specs.Line.{Board, boardAfter, lineHappenings, lineRecords}
 use Rattle.reception.proofs.Cutting.{board-cut, records-cut}
-use Rattle.input.specs.Receive.{ReceiveOutcome, boardOf, received}
+use Rattle.input.specs.Receive.{ReceiveOutcome, linkOf, received}
 use Rattle.input.specs.Promises.{written}
 use Rattle.input.proofs.Receiving.{Receivable, receivable}
 use Rattle.input.proofs.Cutting.{answered, board-back, wrote as wrote-line}
@@ -24,6 +24,10 @@ use Rattle.readback.proofs.Gathered.{line-held}
 pub few-gathered : (h : Held) (octets records : List ℕ) → Receivable (h .link) octets (h .pool) (h .descriptors) records
     → length (board h .receiver .gathered) ≤ 8 * h .link .settings .m + 7
 few-gathered h octets records r = omega (arith, length-take (h .link .line .state .bits) (lineBits (h .link .line .area)), r .formed .bits)
+
+-- what is held with another board; what no line octet touches is that of h
+abbrev pub holdingBoard : Held → Board → Held
+holdingBoard h b = record { link = linkOf (h .link) b; pool = b .unitMemory .pool; descriptors = b .unitMemory .descriptors }
 
 -- ---- one call
 module _ (h : Held) (f : Feed) (z : answer h f .number ≡ 0) where
@@ -55,10 +59,14 @@ module _ (h : Held) (f : Feed) (z : answer h f .number ≡ 0) where
         can-receive .formed .settings .m,
       )
 
-  -- the board that it leaves is that of its line
+  -- what it leaves holds the board of its line,
+  pub held-fed : fed h f ≡ holdingBoard h (boardAfter S (board h) (f .octets))
+  held-fed = ap {B = Held} (λ (o : ReceiveOutcome). record { link = o .link; pool = o .pool; descriptors = o .descriptors }) is-received
+
+  -- and gives it back
   pub board-fed : board (fed h f) ≡ boardAfter S (board h) (f .octets)
   board-fed =
-      ap (λ (o : ReceiveOutcome). boardOf (o .link) (o .pool) (o .descriptors)) is-received
+      ap board held-fed
       ∙ board-back (h .link) (boardAfter S (board h) (f .octets)) fits-area
 
   pub records-wrote : wrote h f ≡ lineRecords S (board h) (f .octets)

@@ -132,6 +132,7 @@ every-free k n x few below e =
 -- ---- one call
 -- what it hands over, and what is still to come after it
 pub record Called (h : Held) (f : Feed) (later : List Bool) (us vs : List (List ℕ)) : Type 0 where
+  pub few : length us ≤ h .link .settings .k
   pub count : answer h f .count ≡ length us
   pub records : wrote h f ≡ ringRecords (h .link .settings .k) (ringOf h) us
   pub ring : ringOf (fed h f) ≡ ringAfter (h .link .settings .k) (ringOf h) us
@@ -223,6 +224,7 @@ module _ (h : Held) (f : Feed) (z : answer h f .number ≡ 0) where
       let is = all-handed S (r .off) indications us O (a .0) free (r .still) marked in
       let same = same-settings h f z in
       record {
+        few = few;
         count = call-count us (r .monitor) is;
         records = call-records us (r .monitor) is;
         ring = call-ring us (r .monitor) is;
@@ -247,7 +249,7 @@ one-round : (t : Round) (ts : List Round) (h : Held) (later : List Bool) (ws us 
     → Called h (t .feed) later us vs → (Reads (roundDone h t .link) later vs → HandsOver (roundDone h t) ts vs) → HandsOver h (t ∷ ts) ws
 one-round t ts h later ws us vs e c go-on =
     subst (HandsOver h (t ∷ ts)) (sym e)
-    (more us vs (c .records) (c .ring)
+    (more us vs (c .few) (c .records) (c .ring)
     (go-on (subst (λ (l : Link). Reads l later vs) (sym (hand-links (t .back) (fed h (t .feed)))) (c .goes-on))))
 
 rounds-read : (ts : List Round) (h : Held) (us : List (List ℕ)) → Reads (h .link) (lineBits (octetsOfRounds ts)) us → Roomy h ts → HandsOver h ts us

@@ -2,20 +2,23 @@
 use Prim.Native.Nat.{ℕ, _+_, _*_, _≤_, _<_}
 use mathlib.Core.Path.{_≡_, refl, sym, ap, ap₂, subst, _∙_}
 use mathlib.Core.Bool.{true}
-use mathlib.Core.List.{List, [], _∷_}
+use mathlib.Core.List.{List, [], _∷_, _++_, append-assoc, append-nil}
 use native.Mathlib.Omega.{arith}
-use lib.ListN.{length, take}
+use lib.ListN.{length, take, length-append}
 use borrow.Author.Tests.{eq-eqb, le-ltb, lt-leb}
 use Rattle.memory.specs.declared.Status.the-variants as statuses
 use Rattle.bits.specs.Format.{basic, mostLongest}
 use Rattle.board.specs.Limits.{recordRoom}
-use Rattle.bits.specs.Octets.{bitsOf, lineBits}
+use Rattle.bits.specs.Octets.{bitsOf, lineBits, Octets}
 use Rattle.bits.proofs.Packing.{packed-nil}
 use Rattle.memory.specs.Lent.{emptyDescriptors, statusOf, lengthOf, statusWord}
 use Rattle.memory.proofs.Slots.{empty-length, filled-front}
 use Rattle.board.specs.declared.Settings.{Settings}
 use Rattle.board.specs.Link.{clearArea}
 use Rattle.board.specs.Malformed.{noOnes, zeroPast}
+use Rattle.board.specs.Promises.{Sized}
+use Rattle.board.specs.With.{withReception}
+use Rattle.framing.proofs.Encoding.{encodes-back}
 use Rattle.board.proofs.Ranges.{ranges, not-malformed}
 use Rattle.board.specs.InnerRanges.{WellFormed, SettingsInRange}
 use Rattle.units.specs.Indications.{lineIndications}
@@ -30,12 +33,12 @@ use Rattle.input.specs.InnerProgress.{progressOf}
 use Rattle.input.specs.Receive.{ReceiveOutcome, linkOf, received, receiveAnswer}
 use Rattle.link.proofs.Answers.{done, openable}
 use Rattle.link.proofs.Kept.{open-number, opened}
-use Rattle.input.proofs.Receiving.{Receivable, receivable, ready}
+use Rattle.input.proofs.Receiving.{Receivable, receivable, ready, held}
 use Rattle.link.specs.Held.{Held}
-use Rattle.readback.specs.Feeding.{board, Feed, answer, fed, heldAfter, none as no-calls, more as one-call}
-use Rattle.readback.specs.Using.{InUse, none, more, OpenInUse, StaysInUse, AnyCutting, StandsRead}
+use Rattle.readback.specs.Feeding.{board, Feed, answer, fed, wrote, heldAfter, recordsFed, octetsFed, Answered, none as no-calls, more as one-call}
+use Rattle.readback.specs.Using.{InUse, none, more, OpenInUse, StaysInUse, AnyCutting, LineCut, StandsRead}
 use Rattle.readback.proofs.Gathered.{Sound, line-held, line-sound, line-allowed}
-use Rattle.readback.proofs.Feeding.{few-gathered, fed-as-one}
+use Rattle.readback.proofs.Feeding.{few-gathered, holdingBoard, held-fed, board-fed, fed-as-one}
 use Rattle.board.proofs.Past.{packed-past}
 use Rattle.readback.proofs.Counter.{left-most}
 
@@ -164,13 +167,79 @@ stays-in-use h (f ∷ fs) u (more few room rest) =
     let r = stays-in-use (fed h f) fs (still-used h f u few room) rest in
     (one-call (taken h f u few room) (r .0), r .1)
 
--- so its board and records are those of the line, however it is cut
-pub any-cutting : AnyCutting
-any-cutting h fs gs u few few′ e =
-    let one = fed-as-one h fs (stays-in-use h fs u few .0) in
-    let other = fed-as-one h gs (stays-in-use h gs u few′ .0) in (
-      one .0 ∙ ap (boardAfter (h .link .settings) (board h)) e ∙ sym (other .0),
+-- ---- the same link, however a line is cut
+-- a link in use holds its own board
+own-board : (h : Held) → InUse h → Sized (h .link) → Octets (h .link .line .area) → h ≡ holdingBoard h (board h)
+own-board h u size octets =
+    let ok = can h (record { octets = []; records = [] }) u (omega arith) (omega arith) in
+    let e =
+    encodes-back (h .link .settings .m) (h .link .line .state) (h .link .line .area) (ok .formed .settings .m .1)
+    (held (h .link) [] (h .pool) (h .descriptors) [] ok (size .area, octets)) in
+    λ i.
+    record {
+      link = withReception (h .link) (record { state = e .0 i; area = e .1 i }) (h .link .units) (h .link .supervision);
+      pool = h .pool;
+      descriptors = h .descriptors;
+    }
+
+-- what calls leave, or none, holds the board that they leave
+calls-hold : (h : Held) (fs : List Feed) → Answered h fs → (fs ≡ [] → h ≡ holdingBoard h (board h))
+    → heldAfter h fs ≡ holdingBoard h (board (heldAfter h fs))
+unfolding heldAfter
+calls-hold h [] no-calls own = own refl
+calls-hold h (f ∷ fs) (one-call z a) own =
+    let this = held-fed h f z in
+    let same : (b : Board) → holdingBoard (fed h f) b ≡ holdingBoard h b = λ b. ap (λ (x : Held). holdingBoard x b) this in
+    let own′ = this ∙ ap (holdingBoard h) (sym (board-fed h f z)) ∙ sym (same (board (fed h f))) in
+    calls-hold (fed h f) fs a (λ _. own′) ∙ same (board (heldAfter (fed h f) fs))
+
+-- so it is that of the line, and the records are
+cut-alike : (h : Held) (fs gs : List Feed) → Answered h fs → Answered h gs → octetsFed fs ≡ octetsFed gs
+    → (fs ≡ [] → h ≡ holdingBoard h (board h)) → (gs ≡ [] → h ≡ holdingBoard h (board h))
+    → (heldAfter h fs ≡ heldAfter h gs) × (recordsFed h fs ≡ recordsFed h gs)
+cut-alike h fs gs a b e own own′ =
+    let one = fed-as-one h fs a in
+    let other = fed-as-one h gs b in (
+      calls-hold h fs a own
+          ∙ ap (holdingBoard h) (one .0 ∙ ap (boardAfter (h .link .settings) (board h)) e ∙ sym (other .0))
+          ∙ sym (calls-hold h gs b own′),
       one .1 ∙ ap (lineRecords (h .link .settings) (board h)) e ∙ sym (other .1),
+    )
+
+pub any-cutting : AnyCutting
+any-cutting h fs gs u size octets few few′ e =
+    let a = stays-in-use h fs u few .0 in
+    let b = stays-in-use h gs u few′ .0 in
+    let own = own-board h u size octets in
+    let same = cut-alike h fs gs a b e (λ _. own) (λ _. own) in
+    (a, b, same .0, same .1)
+
+-- ---- one call, or two
+pub line-cut : LineCut
+unfolding heldAfter recordsFed octetsFed
+line-cut h xs ys records records₁ records₂ u few room room₁ room₂ =
+    let one : Feed = record { octets = xs ++ ys; records = records } in
+    let first : Feed = record { octets = xs; records = records₁ } in
+    let second : Feed = record { octets = ys; records = records₂ } in
+    let size = length-append xs ys in
+    let few₁ : length xs ≤ 1024 = omega arith in
+    let few₂ : length ys ≤ 1024 = omega arith in
+    let u₁ = still-used h first u few₁ room₁ in
+    let z = taken h one u few room in
+    let z₁ = taken h first u few₁ room₁ in
+    let z₂ = taken (fed h first) second u₁ few₂ room₂ in
+    let same =
+    cut-alike h (one ∷ []) (first ∷ second ∷ []) (one-call z no-calls) (one-call z₁ (one-call z₂ no-calls))
+    (append-assoc xs ys []) (λ e. absurd (omega (arith, ap length e))) (λ e. absurd (omega (arith, ap length e))) in (
+      z,
+      z₁,
+      z₂,
+      ap (λ (x : Held). x .link) (same .0),
+      ap (λ (x : Held). x .pool) (same .0),
+      ap (λ (x : Held). x .descriptors) (same .0),
+      sym (append-nil (wrote h one))
+          ∙ same .1
+          ∙ ap (λ (rs : List ℕ). wrote h first ++ rs) (append-nil (wrote (fed h first) second)),
     )
 
 -- ---- read

@@ -42,10 +42,11 @@ abbrev pub ringOf : Held → SlotRing
 ringOf h = record { next = h .link .units .slots .next; pool = h .pool; descriptors = h .descriptors; good = h .link .units .counts .good }
 
 -- Each call hands over the first of the units that are still to come, and nothing else: their records are all that it writes, and they
--- stand one after the other in the slots, before those are handed back. Together the calls hand over all of them.
+-- stand one after the other in the slots, no more of them than there are slots, before those are handed back. Together the calls hand over all
+-- of them.
 pub data HandsOver : Held → List Round → List (List ℕ) → Type 0 where
   none : {h : Held} → HandsOver h [] []
-  more : {h : Held} {t : Round} {ts : List Round} (us vs : List (List ℕ))
+  more : {h : Held} {t : Round} {ts : List Round} (us vs : List (List ℕ)) → length us ≤ h .link .settings .k
       → wrote h (t .feed) ≡ ringRecords (h .link .settings .k) (ringOf h) us
       → ringOf (fed h (t .feed)) ≡ ringAfter (h .link .settings .k) (ringOf h) us
       → HandsOver (roundDone h t) ts vs → HandsOver h (t ∷ ts) (us ++ vs)

@@ -2,18 +2,22 @@
 use Prim.Native.Nat.{ℕ, _*_, _≤_, _<_}
 use mathlib.Core.Path.{_≡_}
 use mathlib.Core.Bool.{true, false}
-use mathlib.Core.List.{List, [], _∷_}
+use mathlib.Core.List.{List, [], _∷_, _++_}
 use lib.ListN.{length}
 use Rattle.bits.specs.Format.{basic, mostLongest, leastContent, mostContent}
+use Rattle.bits.specs.Octets.{Octets}
 use Rattle.board.specs.Limits.{recordRoom, mostLine}
 use Rattle.board.specs.declared.Settings.{Settings}
 use Rattle.board.specs.declared.Link.{Link}
 use Rattle.board.specs.Malformed.{malformed}
+use Rattle.board.specs.Promises.{Sized}
 use Rattle.link.specs.Refusals.{fitsMemory, readNumber}
 use Rattle.link.specs.Calls.{openAnswer, readPart}
+use Rattle.input.specs.Receive.{receiveAnswer}
+use Rattle.input.specs.Promises.{written}
 use Rattle.transmission.specs.Transmission.{Sending, send, fill, linkAfter, Accepted}
 use Rattle.link.specs.Held.{Held}
-use Rattle.readback.specs.Feeding.{board, Feed, heldAfter, recordsFed, octetsFed, Answered}
+use Rattle.readback.specs.Feeding.{Feed, heldAfter, recordsFed, octetsFed, Answered}
 use Rattle.readback.specs.Reading.{Stands}
 use Rattle.readback.specs.Streams.{justOpened}
 
@@ -37,11 +41,29 @@ OpenInUse =
 abbrev pub StaysInUse : Type 0
 StaysInUse = (h : Held) (fs : List Feed) → InUse h → AllSized fs → Answered h fs × InUse (heldAfter h fs)
 
--- However a line is cut into such calls, it leaves the same board, lent memory included, and the same records in order.
+-- A link in use, with arrays as long and a gathering area of octets as their types say: however a line is cut into such calls, they are all
+-- answered 0, and leave the same link, pool and descriptors and the same records in order.
 abbrev pub AnyCutting : Type 0
 AnyCutting =
-    (h : Held) (fs gs : List Feed) → InUse h → AllSized fs → AllSized gs → octetsFed fs ≡ octetsFed gs
-    → (board (heldAfter h fs) ≡ board (heldAfter h gs)) × (recordsFed h fs ≡ recordsFed h gs)
+    (h : Held) (fs gs : List Feed) → InUse h → Sized (h .link) → Octets (h .link .line .area)
+    → AllSized fs → AllSized gs → octetsFed fs ≡ octetsFed gs
+    → Answered h fs × Answered h gs × (heldAfter h fs ≡ heldAfter h gs) × (recordsFed h fs ≡ recordsFed h gs)
+
+-- So a line may be received in one call, or a first part and then the rest.
+abbrev pub LineCut : Type 0
+LineCut =
+    (h : Held) (xs ys records records₁ records₂ : List ℕ) → InUse h → length (xs ++ ys) ≤ mostLine
+    → recordRoom * length (xs ++ ys) ≤ length records → recordRoom * length xs ≤ length records₁ → recordRoom * length ys ≤ length records₂
+    → let one = receiveAnswer (h .link) (xs ++ ys) (h .pool) (h .descriptors) records in
+    let first = receiveAnswer (h .link) xs (h .pool) (h .descriptors) records₁ in
+    let second = receiveAnswer (first .link) ys (first .pool) (first .descriptors) records₂ in
+    (one .number ≡ 0)
+    × (first .number ≡ 0)
+    × (second .number ≡ 0)
+    × (one .link ≡ second .link)
+    × (one .pool ≡ second .pool)
+    × (one .descriptors ≡ second .descriptors)
+    × (written one ≡ written first ++ written second)
 
 -- What stands in a slot of a link in use is what read gives.
 abbrev pub StandsRead : Type 0
