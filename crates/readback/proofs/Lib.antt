@@ -11,6 +11,7 @@ pub mod Counter
 pub mod Using
 pub mod Sends
 pub mod Rounds
+pub mod Filling
 pub mod ReadBack
 pub mod Once
 pub mod Emptying

@@ -18,7 +18,7 @@ use Rattle.link.specs.Held.{Held}
 use Rattle.readback.specs.Feeding.{board, Feed, fed, heldAfter, Answered, none, more}
 use Rattle.readback.specs.SlotRing.{unitOctets}
 use Rattle.readback.specs.Streams.{justOpened}
-use Rattle.readback.specs.Promises.{Booking, opening, Sends, line, ahead, ReadBack, lastSent, FillSends, FillReadBack, AllReadBack, AllReadInRounds}
+use Rattle.readback.specs.Promises.{Booking, opening, Sends, line, ahead, ReadBack, lastSent, FillReadBack, AllReadBack, AllReadInRounds}
 use Rattle.readback.proofs.Feeding.{same-settings}
 use Rattle.readback.proofs.Closing.{seam}
 use Rattle.readback.proofs.Standing.{read-back-fed, slot-below, longest, unit-length}
@@ -126,21 +126,19 @@ read-back b earlier later content s e h fs u sized off ok x =
     }
 
 -- ---- fill-in units
-fill-sends : (last : List ℕ) (ss₁ ss₂ : List Sending) (output : List ℕ) (x y : ℕ) → lastSent last ss₁ ≡ x ∷ y ∷ []
+-- the contents of the units that are sent, with a fill among the calls
+fill-contents : (last : List ℕ) (ss₁ ss₂ : List Sending) (output : List ℕ) (x y : ℕ) → lastSent last ss₁ ≡ x ∷ y ∷ []
     → contentsFrom last (ss₁ ++ (fill output ∷ ss₂)) ≡ contentsFrom last ss₁ ++ ((x ∷ y ∷ 0 ∷ []) ∷ contentsFrom (x ∷ y ∷ []) ss₂)
 unfolding lastSent contentsFrom
-fill-sends last [] ss₂ output x y e = ap (λ (z : List ℕ). contentsFrom z (fill output ∷ ss₂)) e
-fill-sends last (send content out ∷ ss₁) ss₂ output x y e = ap {B = List (List ℕ)} (λ cs. content ∷ cs) (fill-sends (take 2 content) ss₁ ss₂ output x y e)
-fill-sends [] (fill out ∷ ss₁) ss₂ output x y e = fill-sends [] ss₁ ss₂ output x y e
-fill-sends (a ∷ last) (fill out ∷ ss₁) ss₂ output x y e =
-    ap {B = List (List ℕ)} (λ cs. ((a ∷ last) ++ (0 ∷ [])) ∷ cs) (fill-sends (a ∷ last) ss₁ ss₂ output x y e)
-
-pub fill-sent : FillSends
-fill-sent ss₁ ss₂ output x y e = fill-sends [] ss₁ ss₂ output x y e
+fill-contents last [] ss₂ output x y e = ap (λ (z : List ℕ). contentsFrom z (fill output ∷ ss₂)) e
+fill-contents last (send content out ∷ ss₁) ss₂ output x y e = ap {B = List (List ℕ)} (λ cs. content ∷ cs) (fill-contents (take 2 content) ss₁ ss₂ output x y e)
+fill-contents [] (fill out ∷ ss₁) ss₂ output x y e = fill-contents [] ss₁ ss₂ output x y e
+fill-contents (a ∷ last) (fill out ∷ ss₁) ss₂ output x y e =
+    ap {B = List (List ℕ)} (λ cs. ((a ∷ last) ++ (0 ∷ [])) ∷ cs) (fill-contents (a ∷ last) ss₁ ss₂ output x y e)
 
 pub fill-read-back : FillReadBack
 fill-read-back b ss₁ ss₂ output x y s e last h fs u sized off ok z =
-    read-back b (contents ss₁) (contentsFrom (x ∷ y ∷ []) ss₂) (x ∷ y ∷ 0 ∷ []) s (ap contents e ∙ fill-sent ss₁ ss₂ output x y last) h fs u sized off ok z
+    read-back b (contents ss₁) (contentsFrom (x ∷ y ∷ []) ss₂) (x ∷ y ∷ 0 ∷ []) s (ap contents e ∙ fill-contents [] ss₁ ss₂ output x y last) h fs u sized off ok z
 
 -- ---- all of the line
 pub all-read-back : AllReadBack

@@ -15,7 +15,7 @@ use Rattle.memory.specs.Lent.{emptyDescriptors, statusOf, lengthOf, statusWord}
 use Rattle.memory.proofs.Slots.{empty-length, filled-front}
 use Rattle.board.specs.declared.Settings.{Settings}
 use Rattle.board.specs.Link.{clearArea}
-use Rattle.board.specs.Malformed.{noOnes, zeroPast}
+use Rattle.board.specs.Malformed.{noOnes, zeroPast, inRange}
 use Rattle.board.specs.Promises.{Sized}
 use Rattle.board.specs.With.{withReception}
 use Rattle.framing.proofs.Encoding.{encodes-back}
@@ -40,6 +40,7 @@ use Rattle.readback.specs.Using.{InUse, none, more, OpenInUse, StaysInUs
 use Rattle.readback.proofs.Gathered.{Sound, line-held, line-sound, line-allowed}
 use Rattle.readback.proofs.Feeding.{few-gathered, holdingBoard, held-fed, board-fed, fed-as-one}
 use Rattle.board.proofs.Past.{packed-past}
+use Rattle.readback.proofs.Stream.{fresh}
 use Rattle.readback.proofs.Counter.{left-most}
 
 -- the memory of k slots
@@ -72,15 +73,19 @@ opened-formed s r =
       wait = no-wait;
     }
 
+pub fresh-in-use : (s : Settings) (pool : List ℕ) → inRange basic s ≡ true → length pool ≡ 280 * s .k → InUse (fresh s pool)
+fresh-in-use s pool range size =
+    record {
+      opened = refl;
+      formed = not-malformed (openedLink s) refl (opened-formed s (ranges s range));
+      fits = lent (s .k) pool (emptyDescriptors (s .k)) size (empty-length (s .k));
+    }
+
 pub open-in-use : OpenInUse
 open-in-use l s pool descriptors e =
     let ok = openable l s pool descriptors (sym (open-number l s pool descriptors) ∙ e) in
     subst (λ (o : Outcome). InUse (record { link = o .link; pool = o .pool; descriptors = o .descriptors })) (sym (opened l s pool descriptors e))
-    (record {
-      opened = refl;
-      formed = not-malformed (openedLink s) refl (opened-formed s (ranges s (ok .range)));
-      fits = lent (s .k) pool (emptyDescriptors (s .k)) (ok .octets) (empty-length (s .k));
-    })
+    (fresh-in-use s pool (ok .range) (ok .octets))
 
 -- ---- one receive call
 module _ (h : Held) (f : Feed) (u : InUse h) (few : length (f .octets) ≤ 1024) (room : recordRoom * length (f .octets) ≤ length (f .records)) where

@@ -1,27 +1,31 @@
--- D2.6: what `send` and `fill` of one booking put on the line, `receive` of another hands over. The proofs are in proofs/ReadBack.antt.
+-- D2.6: what `send` and `fill` of one booking put on the line, `receive` of another hands over. The proofs are in proofs/ReadBack.antt and proofs/Filling.antt.
 use Prim.Native.Nat.{ℕ, _+_, _*_, _≤_, _<_}
 use mathlib.Core.Path.{_≡_}
 use mathlib.Core.Bool.{Bool, true, false}
 use mathlib.Core.List.{List, [], _∷_, _++_}
 use lib.ListN.{length, take, drop, replicate}
+use Rattle.bits.specs.Format.{basic}
+use Rattle.bits.specs.Octets.{lineBits}
 use Rattle.framing.specs.Delimitation.{flagged, receiverAfter}
 use Rattle.fcs.specs.Check.{checkOctets}
-use Rattle.sending.specs.Stuffing.{unitLine}
+use Rattle.sending.specs.Stuffing.{flag, unitLine}
 use Rattle.sending.specs.Stream.{flags, flagsBefore, unitsLine}
 use Rattle.board.specs.declared.Settings.{Settings}
 use Rattle.board.specs.declared.Link.{Link}
 use Rattle.board.specs.Link.{newLink}
+use Rattle.board.specs.Malformed.{inRange}
 use Rattle.units.specs.Units.{UnitMemory, isFree}
 use Rattle.reception.specs.Line.{boardAfter}
-use Rattle.link.specs.Calls.{Outcome, openAnswer, readPart}
-use Rattle.transmission.specs.Transmission.{Sending, send, fill, linkAfter, octetsSent, Accepted, waitingBits, fillsFirst, contentsFrom, contents}
+use Rattle.link.specs.Calls.{Outcome, openedLink, openAnswer, readPart}
+use Rattle.output.specs.Output.{fillAnswer}
+use Rattle.transmission.specs.Transmission.{Sending, send, fill, linkAfter, octetsSent, Accepted, waitingBits, fillsFirst, contents}
 use Rattle.transmission.specs.Promises.{row1}
 use Rattle.link.specs.Held.{Held}
 use Rattle.readback.specs.Feeding.{board, Feed, heldAfter, recordsFed, octetsFed}
 use Rattle.readback.specs.SlotRing.{unitOctets, ringAfter, ringRecords}
 use Rattle.readback.specs.Reading.{Stands, Reported}
 use Rattle.readback.specs.Streams.{Allowed, AllAllowed, closedOut, justOpened, emptyRing}
-use Rattle.readback.specs.Using.{InUse, AllSized}
+use Rattle.readback.specs.Using.{InUse, AllSized, AllFitting}
 use Rattle.readback.specs.Rounds.{Round, octetsOfRounds, Roomy, HandsOver}
 
 -- ---- the side that sends
@@ -87,18 +91,25 @@ ReadBack =
     → (x : Span (line b) (ahead b earlier) content h fs)
     → HandedOver (heldAfter h fs) (recordsFed h fs) (unitMemoryThen x .units .slots .next) (unitOctets content)
 
--- D2.7: a fill after content sends the first two octets of the last content, then an octet 0,
+-- the first two octets of the last content, or none before any
 unfoldable pub lastSent : List ℕ → List Sending → List ℕ
 lastSent last [] = last
 lastSent last (send content output ∷ ss) = lastSent (take 2 content) ss
 lastSent last (fill output ∷ ss) = lastSent last ss
 
+-- D2.7: after any sends and fills of the sizes allowed a fill is answered 0. It puts behind the bits that wait the unit of the last content's
+-- first two octets and an octet 0; "Before any content it puts out one flag only".
 abbrev pub FillSends : Type 0
 FillSends =
-    (ss₁ ss₂ : List Sending) (output : List ℕ) (x y : ℕ) → lastSent [] ss₁ ≡ x ∷ y ∷ []
-    → contents (ss₁ ++ (fill output ∷ ss₂)) ≡ contents ss₁ ++ ((x ∷ y ∷ 0 ∷ []) ∷ contentsFrom (x ∷ y ∷ []) ss₂)
+    (s : Settings) (ss : List Sending) (output : List ℕ) → inRange basic s ≡ true → AllFitting ss → basic .output ≤ length output
+    → let l = linkAfter (openedLink s) ss in
+    let o = fillAnswer l output in
+    let out = lineBits (take (o .count) (o .output)) ++ waitingBits (o .link) in
+    (o .number ≡ 0)
+    × ((x y : ℕ) → lastSent [] ss ≡ x ∷ y ∷ [] → out ≡ waitingBits l ++ unitLine (x ∷ y ∷ 0 ∷ []))
+    × (lastSent [] ss ≡ [] → out ≡ waitingBits l ++ flag)
 
--- and is read back as a unit of five octets.
+-- Such a unit is read back as one of five octets.
 abbrev pub FillReadBack : Type 0
 FillReadBack =
     (b : Booking) (ss₁ ss₂ : List Sending) (output : List ℕ) (x y : ℕ) → Sends b → b .sendings ≡ ss₁ ++ (fill output ∷ ss₂)
