@@ -16,9 +16,8 @@ use Rattle.board.specs.declared.Link.{Link}
 use Rattle.board.specs.Malformed.{inRange, malformed}
 use Rattle.bits.proofs.Tests.{both, neither}
 use Rattle.link.specs.declared.Answer.{Answer}
-use Rattle.link.specs.Refusals.{isFilled, fitsMemory, openNumber, commandNumber, readNumber}
-use Rattle.link.specs.Commands.{commandOf, obeyed}
-use Rattle.link.specs.Calls.{outcome, openedLink, openAnswer, commandAnswer, readPart, handAnswer}
+use Rattle.link.specs.Refusals.{isFilled, fitsMemory, openNumber, readNumber}
+use Rattle.link.specs.Calls.{outcome, openedLink, openAnswer, readPart, handAnswer}
 use Rattle.link.proofs.Faults.{none}
 
 cond-true : {A : Type 0} {b : Bool} (x y : A) → b ≡ true → cond b x y ≡ x

@@ -49,7 +49,8 @@ AnyCutting =
     → AllSized fs → AllSized gs → octetsFed fs ≡ octetsFed gs
     → Answered h fs × Answered h gs × (heldAfter h fs ≡ heldAfter h gs) × (recordsFed h fs ≡ recordsFed h gs)
 
--- So a line may be received in one call, or a first part and then the rest.
+-- A line received in one call, or a first part of it and then the rest with what the first call left: all three calls are answered 0, the link,
+-- pool and descriptors are the same after it, and the records are the same in order.
 abbrev pub LineCut : Type 0
 LineCut =
     (h : Held) (xs ys records records₁ records₂ : List ℕ) → InUse h → length (xs ++ ys) ≤ mostLine
