@@ -1,14 +1,12 @@
 -- Two benches that are given the same line and commands show the same.
-use Prim.Native.Nat.{ℕ, _*_}
+use Prim.Native.Nat.{ℕ}
 use mathlib.Core.Path.{_≡_, refl, sym, ap, ap₂, subst₂, _∙_}
 use mathlib.Core.Bool.{Bool, true, false, cond}
 use mathlib.Core.List.{List, _∷_, _++_, map, append-assoc, append-nil}
 use lib.Dec.{eqb}
-use lib.ListN.{length, replicate, length-replicate}
+use lib.ListN.{length}
 use Rattle.bits.specs.Format.{basic}
 use Rattle.bits.specs.Machine.{run, outs}
-use Rattle.memory.specs.Lent.{zeros}
-use Rattle.memory.proofs.Slots.{zeros-exact}
 use Rattle.monitor.specs.History.{monitorAfter}
 use Rattle.board.specs.declared.Settings.{Settings}
 use Rattle.board.specs.declared.Link.{Link}
@@ -18,14 +16,12 @@ use Rattle.board.specs.Malformed.{inRange}
 use Rattle.records.specs.declared.Happening.{Happening}
 use Rattle.records.specs.Record.{recordsOf}
 use Rattle.units.specs.Indications.{Indication, lineReceiver, lineIndications}
-use Rattle.link.specs.Refusals.{first}
 use Rattle.link.specs.Commands.{commandOf}
 use Rattle.link.specs.Calls.{openedLink}
-use Rattle.readback.proofs.Using.{lent}
-use Rattle.calls.specs.Call.{Call, receive, command, answer, linkAfter, faults}
+use Rattle.calls.specs.Call.{Call, receive, command, answer, linkAfter}
 use Rattle.calls.specs.Lending.{opening, Lent}
 use Rattle.promises.specs.History.{Front, newFront, numberOf, events, newPast, pastNext}
-use Rattle.promises.proofs.Answering.{link-done}
+use Rattle.promises.proofs.Opening.{opening-link}
 use Rattle.promises.proofs.Holding.{frontOf, holds-new, holds-next}
 use Rattle.bookings.specs.Booking.{Booking, newBooking, Course, courseNext, courseAfter}
 use Rattle.benches.specs.Benches.{SetAlike, Own, SameLine, none, line, told, first as own-first, second as own-second, recordsSeen, seenIn, seen, lineOf, BenchesAlike}
@@ -239,9 +235,6 @@ module _ (s s′ : Settings) (a : SetAlike s s′) where
       }
 
 -- ---- the opening
-all-zero : (n : ℕ) → zeros (replicate n 0) ≡ true
-all-zero n = zeros-exact (replicate n 0) .1 (ap (λ (k : ℕ). replicate k 0) (sym (length-replicate {A = ℕ} n 0)))
-
 abbrev newCourse : Course
 newCourse = record { front = newFront; booking = newBooking }
 
@@ -257,19 +250,8 @@ unfolding lineOf
 opening-line s cs = ap (λ (b : Booking). b .octets ++ lineOf cs) (nothing-yet s)
 
 module _ (s : Settings) (r : inRange basic s ≡ true) where
-  accepted : first (faults newLink (opening s)) ≡ 0
-  unfolding first
-  accepted =
-      rw (
-        holds-new .formed,
-        r,
-        lent (s .k) (replicate (280 * s .k) 0) (replicate (2 * s .k) 0) (length-replicate {A = ℕ} (280 * s .k) 0) (length-replicate {A = ℕ} (2 * s .k) 0),
-        all-zero (280 * s .k),
-        all-zero (2 * s .k),
-      )
-
   opened-is : after newLink (opening s) ≡ openedLink s
-  opened-is = link-done newLink (opening s) accepted
+  opened-is = opening-link s r
 
   opened-bench : Bench s (after newLink (opening s)) (courseNext newCourse (opening s))
   opened-bench =

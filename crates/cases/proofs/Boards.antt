@@ -3,74 +3,46 @@ use Prim.Native.Nat.{ℕ, _*_}
 use mathlib.Core.Path.{_≡_, refl, sym, ap, subst, _∙_}
 use mathlib.Core.Bool.{Bool, true, false}
 use mathlib.Core.List.{List, [], _∷_, map}
-use lib.ListN.{length, replicate, length-replicate}
+use lib.ListN.{length}
 use Rattle.bits.specs.Format.{basic}
-use Rattle.memory.specs.Lent.{zeros}
-use Rattle.memory.proofs.Slots.{zeros-exact}
 use Rattle.board.specs.declared.Settings.{Settings}
 use Rattle.board.specs.declared.Link.{Link}
-use Rattle.board.specs.Link.{newLink}
 use Rattle.board.specs.Malformed.{inRange, malformed}
 use Rattle.board.specs.Rows.{rowOf, table, rowSettings}
 use Rattle.link.specs.declared.Answer.{Answer}
 use Rattle.link.specs.declared.commands.CommandCode.the-variants.{StartFailure}
 use Rattle.link.specs.Commands.{commandOf, obeyed}
-use Rattle.link.specs.Refusals.{first, openNumber, commandNumber}
-use Rattle.link.specs.Calls.{Outcome, openedLink, openAnswer, commandAnswer}
+use Rattle.link.specs.Refusals.{first, commandNumber}
+use Rattle.link.specs.Calls.{openedLink, commandAnswer}
 use Rattle.link.specs.Held.{Held}
 use Rattle.link.proofs.Answers.{done}
-use Rattle.link.proofs.Kept.{open-number, opened}
-use Rattle.calls.specs.Call.{Call, opens, command, linkAfter}
+use Rattle.link.proofs.Kept.{opened}
+use Rattle.calls.specs.Call.{Call, command, linkAfter}
 use Rattle.readback.specs.Using.{InUse}
-use Rattle.readback.proofs.Using.{open-in-use, lent, taken}
-use Rattle.promises.proofs.Holding.{holds-new, holds-after}
+use Rattle.readback.proofs.Using.{lent, taken}
+use Rattle.promises.proofs.Opening.{opening-link, opened-first}
+use Rattle.promises.proofs.Holding.{holds-after}
 use Rattle.reception.specs.Line.{Board, lineHappenings, lineRecords}
 use Rattle.input.specs.Receive.{ReceiveOutcome, boardOf, received, receiveAnswer}
 use Rattle.input.specs.Promises.{written}
 use Rattle.input.proofs.Receiving.{receivable}
 use Rattle.input.proofs.Cutting.{answered, wrote}
 use Rattle.cases.proofs.RecordKinds.{kindOf, call-kinds}
-use Rattle.calls.specs.Lending.{Lent}
+use Rattle.calls.specs.Lending.{opening, Lent}
 use Rattle.cases.specs.Cases.{board, kinds}
 
 -- the link that open and command 2 leave
 abbrev pub started : Settings → Link
 started s = obeyed StartFailure (openedLink s)
 
-zeros-replicate : (n : ℕ) → zeros (replicate n 0) ≡ true
-zeros-replicate n = zeros-exact (replicate n 0) .1 (ap (λ (m : ℕ). replicate m 0) (sym (length-replicate {A = ℕ} n 0)))
-
 -- ---- settings in range, and wiped memory of their slots
 module _ (s : Settings) (range : inRange basic s ≡ true) where
-  abbrev pool : List ℕ
-  pool = replicate (basic .slot * s .k) 0
-
-  abbrev words : List ℕ
-  words = replicate (2 * s .k) 0
-
   abbrev calls : List Call
-  calls = opens s pool words ∷ command 2 ∷ []
-
-  no-fault : openNumber newLink s pool words ≡ 0
-  unfolding openNumber first
-  no-fault =
-      rw (
-        holds-new .formed,
-        range,
-        lent (s .k) pool words (length-replicate {A = ℕ} (basic .slot * s .k) 0) (length-replicate {A = ℕ} (2 * s .k) 0),
-        zeros-replicate (basic .slot * s .k),
-        zeros-replicate (2 * s .k),
-      )
-
-  answered-0 : openAnswer newLink s pool words .number ≡ 0
-  answered-0 = open-number newLink s pool words ∙ no-fault
-
-  open-link : openAnswer newLink s pool words .link ≡ openedLink s
-  open-link = ap (λ (o : Outcome). o .link) (opened newLink s pool words answered-0)
+  calls = opening s ∷ command 2 ∷ []
 
   starts : commandNumber (openedLink s) 2 ≡ 0
   unfolding commandNumber commandOf first
-  starts = rw (subst (λ (l : Link). malformed l ≡ false) open-link (open-in-use newLink s pool words answered-0 .formed))
+  starts = rw (subst (λ (l : Link). malformed l ≡ false) (opened-first s range) (holds-after (opening s ∷ []) .formed))
 
   command-link : commandAnswer (openedLink s) 2 .link ≡ started s
   unfolding commandAnswer commandOf
@@ -78,7 +50,7 @@ module _ (s : Settings) (range : inRange basic s ≡ true) where
 
   link-is : linkAfter calls ≡ started s
   unfolding linkAfter
-  link-is = ap (λ (l : Link). commandAnswer l 2 .link) open-link ∙ command-link
+  link-is = ap (λ (l : Link). commandAnswer l 2 .link) (opening-link s range) ∙ command-link
 
   formed : malformed (started s) ≡ false
   formed = subst (λ (l : Link). malformed l ≡ false) link-is (holds-after calls .formed)

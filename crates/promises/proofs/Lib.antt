@@ -1,6 +1,7 @@
 -- Demand 3, shown.
 pub mod Answering
 pub mod Holding
+pub mod Opening
 pub mod EventBits
 pub mod Alarming
 pub mod Setting

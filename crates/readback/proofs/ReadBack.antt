@@ -27,10 +27,10 @@ use Rattle.readback.proofs.Rounds.{stream-rounds}
 use Rattle.readback.proofs.Using.{open-in-use, stays-in-use, stands-read}
 
 -- ---- a stretch of a line's octets, up to the one in which the bits U end
-record Cut (early : List ℕ) (last skipped : ℕ) (A U : List Bool) : Type 0 where
-  behind : List Bool
-  is : lineBits (early ++ (last ∷ [])) ≡ drop (8 * skipped) A ++ (U ++ behind)
-  few : length behind ≤ 7
+pub record Cut (early : List ℕ) (last skipped : ℕ) (A U : List Bool) : Type 0 where
+  pub behind : List Bool
+  pub is : lineBits (early ++ (last ∷ [])) ≡ drop (8 * skipped) A ++ (U ++ behind)
+  pub few : length behind ≤ 7
 
 module _ (octets skipped early later : List ℕ) (last : ℕ) (A U rest w : List Bool)
     (octets-are : octets ≡ skipped ++ (early ++ (last ∷ later))) (bits-are : lineBits octets ++ w ≡ (A ++ U) ++ rest)
@@ -62,7 +62,7 @@ module _ (octets skipped early later : List ℕ) (last : ℕ) (A U rest w : List
       (append-assoc skipped (early ++ (last ∷ [])) later ∙ ap (λ (xs : List ℕ). skipped ++ xs) (append-snoc early last later) ∙ sym octets-are)
       ∙ bits-are
 
-  stretch : Cut early last (length skipped) A U
+  pub stretch : Cut early last (length skipped) A U
   stretch =
       let front = seam (K ++ F) (lineBits later ++ w) (A ++ U) rest split (omega (arith, sizes)) in
       let behind = front .between in
@@ -90,15 +90,19 @@ pub sent-line : (b : Booking) → Sends b
 sent-line b s = transmitter-line (b .link) (b .settings) (b .pool) (b .descriptors) (b .sendings) (s .opens) (s .accepts)
 
 -- before a unit, the unit, and what comes after it
-line-parts : (b : Booking) (earlier later : List (List ℕ)) (content : List ℕ) → Sends b → contents (b .sendings) ≡ earlier ++ (content ∷ later)
-    → lineBits (line b) ++ waiting b ≡ (ahead b earlier ++ unitLine content) ++ unitsLine later
+pub parts-of : (ss : List Sending) (octets : List ℕ) (w : List Bool) (earlier later : List (List ℕ)) (content : List ℕ)
+    → lineBits octets ++ w ≡ streamLine (fillsFirst ss) (contents ss) → contents ss ≡ earlier ++ (content ∷ later)
+    → lineBits octets ++ w ≡ ((flags (flagsBefore (fillsFirst ss) (contents ss)) ++ unitsLine earlier) ++ unitLine content) ++ unitsLine later
 unfolding streamLine unitsLine
-line-parts b earlier later content s e =
-    let fl = flags (flagsBefore (fillsFirst (b .sendings)) (contents (b .sendings))) in
-    sent-line b s .0
-    ∙ ap (λ (bs : List Bool). fl ++ bs) (ap unitsLine e ∙ units-append earlier (content ∷ later))
+parts-of ss octets w earlier later content is e =
+    let fl = flags (flagsBefore (fillsFirst ss) (contents ss)) in
+    is ∙ ap (λ (bs : List Bool). fl ++ bs) (ap unitsLine e ∙ units-append earlier (content ∷ later))
     ∙ sym (append-assoc fl (unitsLine earlier) (unitLine content ++ unitsLine later))
     ∙ sym (append-assoc (fl ++ unitsLine earlier) (unitLine content) (unitsLine later))
+
+line-parts : (b : Booking) (earlier later : List (List ℕ)) (content : List ℕ) → Sends b → contents (b .sendings) ≡ earlier ++ (content ∷ later)
+    → lineBits (line b) ++ waiting b ≡ (ahead b earlier ++ unitLine content) ++ unitsLine later
+line-parts b earlier later content s e = parts-of (b .sendings) (line b) (waiting b) earlier later content (sent-line b s .0) e
 
 -- ---- read-back
 settings-kept : (h : Held) (fs : List Feed) → Answered h fs → heldAfter h fs .link .settings ≡ h .link .settings

@@ -3,13 +3,11 @@ use Prim.Native.Nat.{ℕ, _+_, _*_, _≤_}
 use mathlib.Core.Path.{_≡_, refl, sym, ap, ap₂, subst, _∙_}
 use mathlib.Core.Bool.{Bool, true, false}
 use mathlib.Core.List.{List, [], _∷_, _++_, map, append-assoc, append-cancel-right}
-use native.Mathlib.Omega.{arith}
-use lib.ListN.{length, drop, length-append, length-drop}
-use lib.Seq.{append-snoc, drop-at, drop-append-le}
+use lib.ListN.{length, drop}
 use Rattle.bits.specs.Format.{basic}
 use Rattle.bits.specs.Machine.{outs}
 use Rattle.bits.specs.Octets.{bitsOf, lineBits}
-use Rattle.bits.proofs.Lines.{length-lineBits, line-append}
+use Rattle.bits.proofs.Lines.{line-append}
 use Rattle.bits.proofs.Machines.{run-append}
 use Rattle.framing.specs.Delimitation.{Receiver, closed, newReceiver, flagged, next, receiverAfter, findings}
 use Rattle.filter.specs.declared.Fate.{Fate}
@@ -17,7 +15,7 @@ use Rattle.filter.specs.declared.Memory.{Memory}
 use Rattle.filter.specs.Memory.{emptyMemory, settled}
 use Rattle.filter.specs.History.{FilterInput, good, command-4, memoryNext, fateOf, fates}
 use Rattle.sending.specs.Stuffing.{unitBits, unitLine}
-use Rattle.sending.specs.Stream.{flags, flagsBefore, unitsLine, streamLine}
+use Rattle.sending.specs.Stream.{unitsLine}
 use Rattle.sending.proofs.Sent.{sent-good, sent-octets}
 use Rattle.board.specs.declared.Settings.{Settings}
 use Rattle.board.specs.declared.Link.{Link}
@@ -29,7 +27,8 @@ use Rattle.readback.specs.Feeding.{board}
 use Rattle.readback.specs.SlotRing.{unitOctets}
 use Rattle.readback.specs.Streams.{AllAllowed, none, more, closedOut}
 use Rattle.readback.specs.Using.{InUse}
-use Rattle.readback.proofs.Closing.{Seam, seam, by-bits, last-finds}
+use Rattle.readback.proofs.Closing.{by-bits, last-finds}
+use Rattle.readback.proofs.ReadBack.{Cut, stretch, parts-of}
 use Rattle.readback.proofs.Pieces.{stream-found}
 use Rattle.readback.proofs.Stream.{closed-allowed}
 use Rattle.readback.proofs.Using.{lent}
@@ -40,27 +39,10 @@ use Rattle.bookings.specs.Booking.{bookingAfter}
 use Rattle.bookings.specs.History.{ifGood, goodUnits}
 use Rattle.bookings.proofs.History.{histories}
 use Rattle.readback_calls.specs.Sender.{lineOf, sendingsOf}
-use Rattle.readback_calls.specs.ReadBack.{Sends, Receives, ahead, Heard, Comes, ReadBack, overOrLost, slotsFound, AllReadBack}
+use Rattle.readback_calls.specs.ReadBack.{Receives, ahead, Heard, Comes, ReadBack, overOrLost, slotsFound, AllReadBack}
 use Rattle.readback_calls.proofs.Staying.{stays}
 use Rattle.readback_calls.proofs.Sender.{line-of-calls}
 use Rattle.readback_calls.proofs.Closing.{Handed, handed}
-
--- ---- the sender's line: before a unit, the unit, and what comes after it
-units-append : (xs ys : List (List ℕ)) → unitsLine (xs ++ ys) ≡ unitsLine xs ++ unitsLine ys
-unfolding unitsLine
-units-append [] ys = refl
-units-append (x ∷ xs) ys = ap (λ (bs : List Bool). unitLine x ++ bs) (units-append xs ys) ∙ sym (append-assoc (unitLine x) (unitsLine xs) (unitsLine ys))
-
-line-parts : (s : Settings) (cs : List Call) (earlier later : List (List ℕ)) (content : List ℕ) → Sends s cs
-    → contents (sendingsOf s cs) ≡ earlier ++ (content ∷ later)
-    → lineBits (lineOf s cs) ++ waitingBits (linkAfter (opening s ∷ cs)) ≡ (ahead (sendingsOf s cs) earlier ++ unitLine content) ++ unitsLine later
-unfolding streamLine unitsLine
-line-parts s cs earlier later content sent e =
-    let fl = flags (flagsBefore (fillsFirst (sendingsOf s cs)) (contents (sendingsOf s cs))) in
-    line-of-calls s cs (sent .range) (sent .one) .0
-    ∙ ap (λ (bs : List Bool). fl ++ bs) (ap unitsLine e ∙ units-append earlier (content ∷ later))
-    ∙ sym (append-assoc fl (unitsLine earlier) (unitLine content ++ unitsLine later))
-    ∙ sym (append-assoc (fl ++ unitsLine earlier) (unitLine content) (unitsLine later))
 
 -- ---- the octet that has the last bit of the unit's closing flag
 module _ (M : ℕ) (heard line : List ℕ) (before : List Bool) (content : List ℕ) (last : ℕ) (x : Heard M heard line before content last)
@@ -68,39 +50,8 @@ module _ (M : ℕ) (heard line : List ℕ) (before : List Bool) (content : List 
   abbrev n : ℕ
   n = 8 * length (x .skipped)
 
-  -- the octets of the stretch, as bits
-  abbrev F : List Bool
-  F = lineBits (x .early ++ (last ∷ []))
-
-  abbrev U : List Bool
-  U = unitLine content
-
-  from-stretch : F ++ (lineBits (x .later) ++ w) ≡ (drop n before ++ U) ++ rest
-  from-stretch =
-      let K = lineBits (x .skipped) in
-      let parts : lineBits line ≡ K ++ (F ++ lineBits (x .later)) =
-      ap lineBits (x .is ∙ ap (λ (xs : List ℕ). x .skipped ++ xs) (sym (append-snoc (x .early) last (x .later))))
-      ∙ line-append (x .skipped) ((x .early ++ (last ∷ [])) ++ x .later)
-      ∙ ap (λ (bs : List Bool). K ++ bs) (line-append (x .early ++ (last ∷ [])) (x .later)) in
-      sym (append-assoc F (lineBits (x .later)) w)
-      ∙ sym (drop-at K ((F ++ lineBits (x .later)) ++ w) n (length-lineBits (x .skipped)))
-      ∙ ap (drop n) (sym (append-assoc K (F ++ lineBits (x .later)) w) ∙ ap (λ (bs : List Bool). bs ++ w) (sym parts) ∙ bits-are)
-      ∙ drop-append-le n (before ++ U) rest (omega (arith, x .begins, length-append before U))
-      ∙ ap (λ (bs : List Bool). bs ++ rest) (drop-append-le n before U (x .begins))
-
-  sizes : length (drop n before ++ U) + n ≡ length (before ++ U)
-  sizes = omega (arith, length-append (drop n before) U, length-drop n before, length-append before U, x .begins)
-
-  stretch-size : length F + n ≡ 8 * length (x .skipped ++ x .early) + 8
-  stretch-size =
-      omega (arith, length-lineBits (x .early ++ (last ∷ [])), length-append (x .early) (last ∷ []), length-append (x .skipped) (x .early))
-
-  cut : Seam F (lineBits (x .later) ++ w) (drop n before ++ U) rest
-  cut = seam F (lineBits (x .later) ++ w) (drop n before ++ U) rest from-stretch (omega (arith, sizes, stretch-size, x .closes))
-
-  few-behind : length (cut .between) ≤ 7
-  few-behind =
-      omega (arith, sizes, stretch-size, x .not-yet, ap length (cut .front), length-append (drop n before ++ U) (cut .between))
+  cut : Cut (x .early) last (length (x .skipped)) before (unitLine content)
+  cut = stretch line (x .skipped) (x .early) (x .later) last before (unitLine content) rest w (x .is) bits-are (x .begins) (x .not-yet) (x .closes)
 
   -- the receiver when the octet comes
   abbrev R : Receiver
@@ -113,11 +64,10 @@ module _ (M : ℕ) (heard line : List ℕ) (before : List Bool) (content : List 
 
   octet-finds : length content + 2 ≤ M
       → findings M (receiverAfter M newReceiver (lineBits (x .lead ++ x .early))) (bitsOf 8 last)
-      ≡ closed (unitBits content) ∷ findings M flagged (cut .between)
+      ≡ closed (unitBits content) ∷ findings M flagged (cut .behind)
   octet-finds room =
       ap (λ (r : Receiver). findings M r (bitsOf 8 last)) (sym heard-so)
-      ∙ last-finds M R (x .early) last (drop n before) (cut .between) content
-      (cut .front ∙ append-assoc (drop n before) U (cut .between)) few-behind
+      ∙ last-finds M R (x .early) last (drop n before) (cut .behind) content (cut .is) (cut .few)
       (sym (run-append (next M) (lineBits (x .lead)) (drop n before) newReceiver) ∙ x .flag-read) room
 
 -- ---- the booking that receives
@@ -162,7 +112,7 @@ module _ (r : Settings) (ds : List Call) (v : Receives r ds) where
 
 pub read-back : ReadBack
 read-back s cs r ds earlier later content sent v e ok mid last pool descriptors records c x =
-    let bits = line-parts s cs earlier later content sent e in
+    let bits = parts-of (sendingsOf s cs) (lineOf s cs) (waitingBits (linkAfter (opening s ∷ cs))) earlier later content (line-of-calls s cs (sent .range) (sent .one) .0) e in
     let heard = bookingAfter (opening r ∷ ds) .octets ++ (mid ++ (last ∷ [])) in
     let before = ahead (sendingsOf s cs) earlier in
     let w = waitingBits (linkAfter (opening s ∷ cs)) in
@@ -171,8 +121,8 @@ read-back s cs r ds earlier later content sent v e ok mid last pool descriptors 
     (append-assoc (bookingAfter (opening r ∷ ds) .octets) mid (last ∷ []) ∙ x .given ∙ sym (append-assoc (x .lead) (x .early) (last ∷ []))) in
     taken-so r ds v mid last pool descriptors records c content (v .filter-off) ok (c .free)
     (record {
-      behind = cut (r .m) heard (lineOf s cs) before content last x (unitsLine later) w bits .between;
-      few = few-behind (r .m) heard (lineOf s cs) before content last x (unitsLine later) w bits;
+      behind = cut (r .m) heard (lineOf s cs) before content last x (unitsLine later) w bits .behind;
+      few = cut (r .m) heard (lineOf s cs) before content last x (unitsLine later) w bits .few;
       finds =
           ap (λ (y : Receiver). findings (r .m) y (bitsOf 8 last))
           (receiver-then r ds v mid last pool descriptors records c ∙ ap (λ (os : List ℕ). receiverAfter (r .m) newReceiver (lineBits os)) same)

@@ -24,8 +24,9 @@ use Rattle.transmission.proofs.Line.{few-two, transmitter-line}
 use Rattle.calls.specs.Call.{Call, opens, receive, command, clear, send, fill, read, readsNumber, handBack, wipe, linkAfter, faults}
 use Rattle.calls.specs.Lending.{opening}
 use Rattle.promises.proofs.Answering.{number-is}
+use Rattle.promises.proofs.Opening.{opening-answered}
 use Rattle.readback_calls.specs.Sender.{isWipe, oneBooking, putOut, acceptedIn, lineOf, sendingsOf, LineOfCalls}
-use Rattle.readback_calls.proofs.Staying.{isQuiet, keeps, Live, live-next, first-no-wipe, next, opens-so, live-opened}
+use Rattle.readback_calls.proofs.Staying.{isQuiet, keeps, Live, live-next, first-no-wipe, next, live-opened}
 
 -- the call that makes a send or fill
 abbrev callOf : Sending → Call
@@ -171,7 +172,7 @@ line-of-calls s cs range one =
     let r = runs cs l l v v refl one in
     let pool : List ℕ = replicate (basic .slot * s .k) 0 in
     let descriptors : List ℕ = replicate (2 * s .k) 0 in
-    let line = transmitter-line newLink s pool descriptors (sendingsOf s cs) (opens-so s range) (r .accepts) in
+    let line = transmitter-line newLink s pool descriptors (sendingsOf s cs) (opening-answered s range) (r .accepts) in
     let waits = ap (λ (t : Transmitter). waiting (sender t)) (r .same) in (
       ap₂ (λ (os : List ℕ) (w : List Bool). lineBits os ++ w) (r .octets) waits ∙ line .0,
       subst (λ (w : List Bool). length w ≤ 7) (sym waits) (line .1),

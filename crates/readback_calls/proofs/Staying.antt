@@ -1,32 +1,27 @@
 -- A booking with no wipe among its calls: its link stays open with its settings, and no call but send and fill touches the transmitter.
-use Prim.Native.Nat.{ℕ, _*_}
+use Prim.Native.Nat.{ℕ}
 use mathlib.Core.Path.{_≡_, refl, sym, ap, subst, _∙_}
 use mathlib.Core.Bool.{Bool, true, false, cond, false≢true}
 use mathlib.Core.List.{List, [], _∷_}
 use native.Mathlib.Omega.{arith}
 use borrow.Author.Tests.{eqb-true, eqb-false}
 use lib.Dec.{eqb}
-use lib.ListN.{replicate, length-replicate}
 use Rattle.bits.specs.Format.{basic}
 use Rattle.bits.specs.Machine.{run}
-use Rattle.memory.specs.Lent.{zeros}
-use Rattle.memory.proofs.Slots.{zeros-exact}
 use Rattle.board.specs.declared.Settings.{Settings}
 use Rattle.board.specs.declared.Link.{Link}
-use Rattle.board.specs.Link.{newLink}
 use Rattle.board.specs.Malformed.{inRange}
 use Rattle.link.specs.declared.commands.CommandCode.{CommandCode}
 use Rattle.link.specs.declared.commands.CommandCode.the-variants.{MonitorOff, StartFailure, StartAlignment, MustHandOver, CountOctets, Unknown}
 use Rattle.link.specs.Commands.{commandOf, obeyed}
 use Rattle.link.specs.Refusals.{first}
-use Rattle.link.specs.Calls.{openedLink}
 use Rattle.link.proofs.Faults.{none}
-use Rattle.readback.proofs.Using.{lent}
 use Rattle.calls.specs.Call.{Call, opens, receive, command, clear, send, fill, read, readsNumber, handBack, wipe, answer, linkAfter, faults}
 use Rattle.calls.specs.Lending.{opening}
 use Rattle.promises.specs.History.{Past, pastAfter, pastNext}
-use Rattle.promises.proofs.Answering.{number-is, linkDone, link-done, link-refused}
-use Rattle.promises.proofs.Holding.{Holds, holds-new, holds-next, holds-after}
+use Rattle.promises.proofs.Answering.{linkDone, link-done, link-refused}
+use Rattle.promises.proofs.Opening.{opened-first}
+use Rattle.promises.proofs.Holding.{Holds, holds-next, holds-after}
 use Rattle.readback_calls.specs.Sender.{isWipe, oneBooking}
 
 -- ---- one call
@@ -120,34 +115,13 @@ settings-kept (c ∷ cs) l o e =
     (rest .0, rest .1 ∙ k .settings)
 
 -- ---- the opening
-all-zero : (n : ℕ) → zeros (replicate n 0) ≡ true
-all-zero n = zeros-exact (replicate n 0) .1 (ap (λ (k : ℕ). replicate {A = ℕ} k 0) (sym (length-replicate {A = ℕ} n 0)))
-
 module _ (s : Settings) (range : inRange basic s ≡ true) where
-  no-fault : first (faults newLink (opening s)) ≡ 0
-  unfolding first
-  no-fault =
-      rw (
-        holds-new .formed,
-        range,
-        lent (s .k) _ _ (length-replicate {A = ℕ} (basic .slot * s .k) 0) (length-replicate {A = ℕ} (2 * s .k) 0),
-        all-zero (basic .slot * s .k),
-        all-zero (2 * s .k),
-      )
-
-  pub opens-so : answer newLink (opening s) .number ≡ 0
-  opens-so = number-is newLink (opening s) ∙ no-fault
-
-  pub is-opened : linkAfter (opening s ∷ []) ≡ openedLink s
-  unfolding linkAfter
-  is-opened = link-done newLink (opening s) no-fault
-
   pub live-opened : Live (linkAfter (opening s ∷ []))
   live-opened =
       record {
         past = pastAfter (opening s ∷ []);
         holds = holds-after (opening s ∷ []);
-        opened = ap (λ (l : Link). l .opened) is-opened;
+        opened = ap (λ (l : Link). l .opened) (opened-first s range);
       }
 
   -- open with these settings from then on
@@ -155,4 +129,4 @@ module _ (s : Settings) (range : inRange basic s ≡ true) where
   unfolding linkAfter
   stays cs one =
       let k = settings-kept cs (linkAfter (opening s ∷ [])) (live-opened .opened) one in
-      (k .0, k .1 ∙ ap (λ (l : Link). l .settings) is-opened)
+      (k .0, k .1 ∙ ap (λ (l : Link). l .settings) (opened-first s range))
