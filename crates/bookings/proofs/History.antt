@@ -32,7 +32,7 @@ use Rattle.promises.proofs.Holding.{frontOf, by-last}
 use Rattle.readback.proofs.Closing.{by-bits}
 use Rattle.readback.proofs.Handing.{foundIn, found-line}
 use Rattle.bookings.specs.Booking.{Booking, newBooking, inputsIn, inputOfCommand, bookingDone, Course, courseNext, courseAfter, bookingAfter}
-use Rattle.bookings.specs.History.{goodUnits, unitsOf, Shown, shown, kindsShown, fatesTold, isOver, isDropped, isLost, howMany, round, fatesAfter, History, Histories}
+use Rattle.bookings.specs.History.{goodUnits, unitsOf, KindOrGood, shown, kindsShown, fatesTold, isOver, isDropped, isLost, howMany, round, fatesAfter, History, Histories}
 use Rattle.bookings.proofs.Courses.{course-last, course-link}
 use Rattle.bookings.proofs.Inputs.{kinds-append, fates-append, units-append, good-append, map-append, countAll, Tells, tells-all}
 
@@ -89,7 +89,7 @@ module _ (f : Front) (b : Booking) (t : Told f b) (octets pool descriptors : Lis
             ∙ sym (outs-append (next M) (finds M) (lineBits (b .octets)) (lineBits octets) newReceiver) ∙ ap (findings M newReceiver) (sym (line-append (b .octets) octets));
         recorded =
             kinds-append (b .happened) (brought f octets pool descriptors)
-            ∙ ap₂ (λ (x y : List Shown). x ++ y) (t .recorded) (said .recorded ∙ ap (map shown) all-found) ∙ sym (map-append shown (b .found) fs);
+            ∙ ap₂ (λ (x y : List KindOrGood). x ++ y) (t .recorded) (said .recorded ∙ ap (map shown) all-found) ∙ sym (map-append shown (b .found) fs);
         filtered =
             units-append (b .inputs) ys
             ∙ ap₂ (λ (x y : List (List ℕ)). x ++ y) (t .filtered) (said .filtered ∙ ap goodUnits all-found) ∙ sym (good-append (b .found) fs);

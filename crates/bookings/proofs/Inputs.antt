@@ -29,13 +29,13 @@ use Rattle.units.specs.Units.{UnitMemory, unitMemory, Effect, isFree, counted, 
 use Rattle.units.proofs.UnitStates.{each-cond}
 use Rattle.readback.proofs.Handing.{foundIn}
 use Rattle.bookings.specs.Booking.{toFilter, inputOf, inputsIn}
-use Rattle.bookings.specs.History.{ifGood, goodUnits, unitsOf, Shown, byFate as by-fate, shownAs, shown, kindShown, kindsShown, fateTold, fatesTold}
+use Rattle.bookings.specs.History.{ifGood, goodUnits, unitsOf, KindOrGood, isGood, shownAs, shown, kindShown, kindsShown, fateTold, fatesTold}
 
 -- ---- lists in two parts
 pub kinds-append : (xs ys : List Happening) → kindsShown (xs ++ ys) ≡ kindsShown xs ++ kindsShown ys
 unfolding kindsShown
 kinds-append [] ys = refl
-kinds-append (x ∷ xs) ys = ap (λ (l : List Shown). kindShown (x .kind) ++ l) (kinds-append xs ys) ∙ sym (append-assoc (kindShown (x .kind)) (kindsShown xs) (kindsShown ys))
+kinds-append (x ∷ xs) ys = ap (λ (l : List KindOrGood). kindShown (x .kind) ++ l) (kinds-append xs ys) ∙ sym (append-assoc (kindShown (x .kind)) (kindsShown xs) (kindsShown ys))
 
 pub fates-append : (xs ys : List Happening) → fatesTold (xs ++ ys) ≡ fatesTold xs ++ fatesTold ys
 unfolding fatesTold
@@ -56,9 +56,9 @@ good-append (closed u ∷ xs) ys =
 good-append (abort ∷ xs) ys = good-append xs ys
 good-append (long ∷ xs) ys = good-append xs ys
 
-pub map-append : (f : Finding → Shown) (xs ys : List Finding) → map f (xs ++ ys) ≡ map f xs ++ map f ys
+pub map-append : (f : Finding → KindOrGood) (xs ys : List Finding) → map f (xs ++ ys) ≡ map f xs ++ map f ys
 map-append f [] ys = refl
-map-append f (x ∷ xs) ys = ap (λ (l : List Shown). f x ∷ l) (map-append f xs ys)
+map-append f (x ∷ xs) ys = ap (λ (l : List KindOrGood). f x ∷ l) (map-append f xs ys)
 
 -- ---- the findings of indications
 abbrev foundOne : Indication → List Finding
@@ -112,7 +112,7 @@ module _ (s : Settings) where
     abbrev xs : List FilterInput
     xs = good (wholeOctets u) (isFree o) ∷ []
 
-    is-shown : by-fate ∷ [] ≡ map shown (closed u ∷ [])
+    is-shown : isGood ∷ [] ≡ map shown (closed u ∷ [])
     is-shown = ap (λ (w : Verdict). shownAs w ∷ []) (sym v)
 
     is-unit : unitsOf xs ≡ goodUnits (closed u ∷ [])
@@ -194,7 +194,7 @@ module _ (s : Settings) where
             b .counts ∙ ap (λ (x : Counts). countAll x (fatesTold hs′)) (a .counts)
             ∙ sym (run-append (λ c f. counted f c) (fatesTold hs) (fatesTold hs′) (o .units .counts)) ∙ ap (countAll (o .units .counts)) (sym (fates-append hs hs′));
         recorded =
-            kinds-append hs hs′ ∙ ap₂ (λ (x y : List Shown). x ++ y) (a .recorded) (b .recorded) ∙ sym (map-append shown (foundOne m) (foundIn ms)) ∙ ap (map shown) (one-more m ms);
+            kinds-append hs hs′ ∙ ap₂ (λ (x y : List KindOrGood). x ++ y) (a .recorded) (b .recorded) ∙ sym (map-append shown (foundOne m) (foundIn ms)) ∙ ap (map shown) (one-more m ms);
         filtered =
             units-append (inputOf o m) ys ∙ ap₂ (λ (x y : List (List ℕ)). x ++ y) (a .filtered) (b .filtered) ∙ sym (good-append (foundOne m) (foundIn ms)) ∙ ap goodUnits (one-more m ms);
       }

@@ -41,34 +41,34 @@ unitsOf (command-4 ∷ xs) = unitsOf xs
 
 -- ---- the records
 -- the kind of record that a finding has, where a good unit's is by its fate
-pub data Shown : Type 0 where
-  byFate : Shown
-  plain : RecordKind → Shown
+pub data KindOrGood : Type 0 where
+  isGood : KindOrGood
+  ofKind : RecordKind → KindOrGood
 
-abbrev pub shownAs : Verdict → Shown
-shownAs Short = plain kinds.Short
-shownAs NotWhole = plain kinds.NotWhole
-shownAs CheckWrong = plain kinds.CheckWrong
-shownAs Good = byFate
+abbrev pub shownAs : Verdict → KindOrGood
+shownAs Short = ofKind kinds.Short
+shownAs NotWhole = ofKind kinds.NotWhole
+shownAs CheckWrong = ofKind kinds.CheckWrong
+shownAs Good = isGood
 
-abbrev pub shown : Finding → Shown
+abbrev pub shown : Finding → KindOrGood
 shown (closed u) = shownAs (verdictOf basic u)
-shown abort = plain kinds.Abort
-shown long = plain kinds.Long
+shown abort = ofKind kinds.Abort
+shown long = ofKind kinds.Long
 
 -- what happened, octet ticks left out: the kinds of the records,
-abbrev pub kindShown : RecordKind → List Shown
-kindShown kinds.HandedOver = byFate ∷ []
-kindShown kinds.Dropped = byFate ∷ []
-kindShown kinds.Lost = byFate ∷ []
-kindShown kinds.CheckWrong = plain kinds.CheckWrong ∷ []
-kindShown kinds.NotWhole = plain kinds.NotWhole ∷ []
-kindShown kinds.Short = plain kinds.Short ∷ []
-kindShown kinds.Long = plain kinds.Long ∷ []
-kindShown kinds.Abort = plain kinds.Abort ∷ []
+abbrev pub kindShown : RecordKind → List KindOrGood
+kindShown kinds.HandedOver = isGood ∷ []
+kindShown kinds.Dropped = isGood ∷ []
+kindShown kinds.Lost = isGood ∷ []
+kindShown kinds.CheckWrong = ofKind kinds.CheckWrong ∷ []
+kindShown kinds.NotWhole = ofKind kinds.NotWhole ∷ []
+kindShown kinds.Short = ofKind kinds.Short ∷ []
+kindShown kinds.Long = ofKind kinds.Long ∷ []
+kindShown kinds.Abort = ofKind kinds.Abort ∷ []
 kindShown kinds.Tick = []
 
-unfoldable pub kindsShown : List Happening → List Shown
+unfoldable pub kindsShown : List Happening → List KindOrGood
 kindsShown [] = []
 kindsShown (h ∷ hs) = kindShown (h .kind) ++ kindsShown hs
 

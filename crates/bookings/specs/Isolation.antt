@@ -6,24 +6,20 @@ use mathlib.Core.List.{List, [], _∷_, _++_}
 use lib.ListN.{length, getD}
 use Rattle.bits.specs.Machine.{run, outs}
 use Rattle.board.specs.declared.Link.{Link}
+use Rattle.link.specs.Held.{Held}
 use Rattle.calls.specs.Call.{Call, opens, receive, command, clear, send, fill, read, readsNumber, handBack, wipe, Answer, answer, linkAfter}
 
 -- what calls answer, each with all that it gives back and leaves, from a link on
 unfoldable pub answersFrom : Link → List Call → List Answer
 answersFrom = outs (λ l c. answer l c .link) (λ l c. answer l c ∷ [])
 
--- ---- a board with its pool and descriptors, as the last call left them
-pub record Rack : Type 0 where
-  pub link : Link
-  pub pool : List ℕ
-  pub descriptors : List ℕ
-
+-- ---- a link with its pool and descriptors, as the last call left them
 -- list i of those that a call was lent
 abbrev pub lentBack : Answer → ℕ → List ℕ
 lentBack a i = getD (a .lent) i []
 
 -- the pool and the descriptors after a call that was lent them; wipe is given all of both
-abbrev pub left : Rack → Call → Answer → Rack
+abbrev pub left : Held → Call → Answer → Held
 left r (opens s pool descriptors) a = record { link = a .link; pool = lentBack a 0; descriptors = lentBack a 1 }
 left r (receive octets pool descriptors records) a = record { link = a .link; pool = lentBack a 1; descriptors = lentBack a 2 }
 left r (command n) a = record { link = a .link; pool = r .pool; descriptors = r .descriptors }
@@ -36,18 +32,18 @@ left r (handBack pool descriptors slot) a = record { link = a .link; pool = lent
 left r (wipe octets words) a = record { link = a .link; pool = lentBack a 0; descriptors = lentBack a 1 }
 
 -- A user makes each call by what stands there: the link, the pool and the descriptors, all of which may be looked at and lent.
-abbrev pub made : Rack → (Rack → Call) → Rack
+abbrev pub made : Held → (Held → Call) → Held
 made r host = left r (host r) (answer (r .link) (host r))
 
 -- the answers to a user, and what is left
-unfoldable pub answersTo : Rack → List (Rack → Call) → List Answer
+unfoldable pub answersTo : Held → List (Held → Call) → List Answer
 answersTo = outs made (λ r host. answer (r .link) (host r) ∷ [])
 
-unfoldable pub leftBy : Rack → List (Rack → Call) → Rack
+unfoldable pub leftBy : Held → List (Held → Call) → Held
 leftBy = run made
 
 -- the wipe between two bookings: all of the pool and all of the descriptors
-abbrev pub wipeAll : Rack → Call
+abbrev pub wipeAll : Held → Call
 wipeAll r = wipe (r .pool) (r .descriptors)
 
 -- ---- the statement
@@ -57,5 +53,5 @@ pub record Isolation : Type 0 where
       → answersFrom (linkAfter (cs ++ (wipe octets words ∷ []))) later ≡ answersFrom (linkAfter (ds ++ (wipe octets′ words′ ∷ []))) later
   -- The next user of a wiped board, whatever is done by what stands in link and memory, gets the same answers and leaves the same board and memory
   -- whatever link and memory the last user left, if these are of the same sizes.
-  pub same-user : (r r′ : Rack) (hosts : List (Rack → Call)) → length (r .pool) ≡ length (r′ .pool) → length (r .descriptors) ≡ length (r′ .descriptors)
+  pub same-user : (r r′ : Held) (hosts : List (Held → Call)) → length (r .pool) ≡ length (r′ .pool) → length (r .descriptors) ≡ length (r′ .descriptors)
       → (answersTo (made r wipeAll) hosts ≡ answersTo (made r′ wipeAll) hosts) × (leftBy (made r wipeAll) hosts ≡ leftBy (made r′ wipeAll) hosts)

@@ -18,7 +18,7 @@ use Rattle.link.specs.Held.{Held}
 use Rattle.readback.specs.Feeding.{board, Feed, fed, heldAfter, Answered, none, more}
 use Rattle.readback.specs.SlotRing.{unitOctets}
 use Rattle.readback.specs.Streams.{justOpened}
-use Rattle.readback.specs.Promises.{Booking, opening, Sends, line, ahead, ReadBack, lastSent, FillReadBack, AllReadBack, AllReadInRounds}
+use Rattle.readback.specs.Promises.{Booking, opening, Sends, line, aheadOf, ahead, ReadBack, lastSent, FillReadBack, AllReadBack, AllReadInRounds}
 use Rattle.readback.proofs.Feeding.{same-settings}
 use Rattle.readback.proofs.Closing.{seam}
 use Rattle.readback.proofs.Standing.{read-back-fed, slot-below, longest, unit-length}
@@ -92,7 +92,7 @@ sent-line b s = transmitter-line (b .link) (b .settings) (b .pool) (b .descripto
 -- before a unit, the unit, and what comes after it
 pub parts-of : (ss : List Sending) (octets : List ℕ) (w : List Bool) (earlier later : List (List ℕ)) (content : List ℕ)
     → lineBits octets ++ w ≡ streamLine (fillsFirst ss) (contents ss) → contents ss ≡ earlier ++ (content ∷ later)
-    → lineBits octets ++ w ≡ ((flags (flagsBefore (fillsFirst ss) (contents ss)) ++ unitsLine earlier) ++ unitLine content) ++ unitsLine later
+    → lineBits octets ++ w ≡ (aheadOf ss earlier ++ unitLine content) ++ unitsLine later
 unfolding streamLine unitsLine
 parts-of ss octets w earlier later content is e =
     let fl = flags (flagsBefore (fillsFirst ss) (contents ss)) in

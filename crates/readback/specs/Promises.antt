@@ -53,8 +53,11 @@ abbrev pub waits : Booking → ℕ
 waits b = length (waitingBits (linkAfter (opening b .link) (b .sendings)))
 
 -- the bits of the line before the unit that comes after these, up to the flag that opens it
+abbrev pub aheadOf : List Sending → List (List ℕ) → List Bool
+aheadOf ss earlier = flags (flagsBefore (fillsFirst ss) (contents ss)) ++ unitsLine earlier
+
 abbrev pub ahead : Booking → List (List ℕ) → List Bool
-ahead b earlier = flags (flagsBefore (fillsFirst (b .sendings)) (contents (b .sendings))) ++ unitsLine earlier
+ahead b = aheadOf (b .sendings)
 
 -- ---- the side that receives
 -- A stretch of the line is fed to a link, in any cutting, up to the octet `last` with the last bit of the unit's closing flag. It may begin

@@ -24,6 +24,7 @@ use Rattle.reception.specs.Line.{boardAfter}
 use Rattle.link.specs.Held.{Held}
 use Rattle.transmission.specs.Transmission.{waitingBits, fillsFirst, contents}
 use Rattle.readback.specs.Feeding.{board}
+use Rattle.readback.specs.Promises.{aheadOf}
 use Rattle.readback.specs.SlotRing.{unitOctets}
 use Rattle.readback.specs.Streams.{AllAllowed, none, more, closedOut}
 use Rattle.readback.specs.Using.{InUse}
@@ -39,7 +40,7 @@ use Rattle.bookings.specs.Booking.{bookingAfter}
 use Rattle.bookings.specs.History.{ifGood, goodUnits}
 use Rattle.bookings.proofs.History.{histories}
 use Rattle.readback_calls.specs.Sender.{lineOf, sendingsOf}
-use Rattle.readback_calls.specs.ReadBack.{Receives, ahead, Heard, Comes, ReadBack, overOrLost, slotsFound, AllReadBack}
+use Rattle.readback_calls.specs.ReadBack.{Receives, Heard, Comes, ReadBack, overOrLost, slotsFound, AllReadBack}
 use Rattle.readback_calls.proofs.Staying.{stays}
 use Rattle.readback_calls.proofs.Sender.{line-of-calls}
 use Rattle.readback_calls.proofs.Closing.{Handed, handed}
@@ -114,7 +115,7 @@ pub read-back : ReadBack
 read-back s cs r ds earlier later content sent v e ok mid last pool descriptors records c x =
     let bits = parts-of (sendingsOf s cs) (lineOf s cs) (waitingBits (linkAfter (opening s ∷ cs))) earlier later content (line-of-calls s cs (sent .range) (sent .one) .0) e in
     let heard = bookingAfter (opening r ∷ ds) .octets ++ (mid ++ (last ∷ [])) in
-    let before = ahead (sendingsOf s cs) earlier in
+    let before = aheadOf (sendingsOf s cs) earlier in
     let w = waitingBits (linkAfter (opening s ∷ cs)) in
     let same : bookingAfter (opening r ∷ ds) .octets ++ mid ≡ x .lead ++ x .early =
     append-cancel-right (bookingAfter (opening r ∷ ds) .octets ++ mid) (x .lead ++ x .early) (last ∷ [])

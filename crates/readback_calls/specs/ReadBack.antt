@@ -12,14 +12,13 @@ use Rattle.filter.specs.declared.Fate.{Fate}
 use Rattle.filter.specs.declared.Fate.the-variants.{HandedOver, Lost}
 use Rattle.filter.specs.History.{FilterInput, good, command-4}
 use Rattle.sending.specs.Stuffing.{unitBits, unitLine}
-use Rattle.sending.specs.Stream.{flags, flagsBefore, unitsLine}
 use Rattle.board.specs.declared.Settings.{Settings}
 use Rattle.board.specs.Malformed.{inRange}
 use Rattle.units.specs.Units.{isFree}
 use Rattle.reception.specs.Line.{boardAfter}
 use Rattle.input.specs.Receive.{boardOf, receiveAnswer}
 use Rattle.input.specs.Promises.{written}
-use Rattle.transmission.specs.Transmission.{Sending, waitingBits, fillsFirst, contents}
+use Rattle.transmission.specs.Transmission.{waitingBits, contents}
 use Rattle.readback.specs.SlotRing.{unitOctets}
 use Rattle.readback.specs.Streams.{Allowed, AllAllowed, closedOut}
 use Rattle.readback.specs.Promises as units
@@ -38,10 +37,6 @@ pub record Receives (r : Settings) (ds : List Call) : Type 0 where
   pub range : inRange basic r ≡ true
   pub one : oneBooking ds ≡ true
   pub filter-off : r .filter ≡ false
-
--- the bits of the line before the unit that comes after these, up to the flag that opens it
-abbrev pub ahead : List Sending → List (List ℕ) → List Bool
-ahead ss earlier = flags (flagsBefore (fillsFirst ss) (contents ss)) ++ unitsLine earlier
 
 -- ---- the line octets that a receiver of longest unit M has been given since its opening: any octets at all (`lead`), then a stretch of the sender's line that
 -- begins anywhere before the unit, at any bit offset from it, and ends with the octet `last`, which has the last bit of the unit's closing flag. It
@@ -72,7 +67,7 @@ ReadBack =
     → (mid : List ℕ) (last : ℕ) (pool descriptors records : List ℕ) → Comes r ds mid last pool descriptors records
     → let l = linkAfter (opening r ∷ ds) in
     let o = receiveAnswer l (mid ++ (last ∷ [])) pool descriptors records in
-    Heard (r .m) (bookingAfter (opening r ∷ ds) .octets ++ (mid ++ (last ∷ []))) (lineOf s cs) (ahead (sendingsOf s cs) earlier) content last
+    Heard (r .m) (bookingAfter (opening r ∷ ds) .octets ++ (mid ++ (last ∷ []))) (lineOf s cs) (units.aheadOf (sendingsOf s cs) earlier) content last
     → (o .number ≡ 0)
     × units.HandedOver (record { link = o .link; pool = o .pool; descriptors = o .descriptors }) (written o)
     (boardAfter r (boardOf l pool descriptors) mid .unitMemory .units .slots .next) (unitOctets content)
