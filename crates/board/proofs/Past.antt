@@ -1,11 +1,12 @@
 -- Octets that are zero past their first bits.
 use Prim.Native.Nat.{ℕ, zero, suc, _+_, _-_, _*_, _/_, _%_, _^_, _≤_, _<_}
-use mathlib.Core.Path.{_≡_, refl, sym, ap, _∙_}
-use mathlib.Core.Bool.{Bool, true, false, not, _&&_, false≢true}
+use mathlib.Core.Path.{_≡_, refl, sym, ap, ap₂, _∙_}
+use mathlib.Core.Bool.{Bool, true, false, not, _&&_, and-true, and-assoc, false≢true}
 use mathlib.Core.List.{List, [], _∷_, _++_, append-nil}
 use native.Mathlib.Nat.{pow-suc, sub-zero, div-lt-iff-lt-mul}
 use native.Mathlib.Decide.{decLt}
 use native.Mathlib.Omega.{arith}
+use lib.Bits.{bitOr, or-add-and, and-le-l, and-le-r}
 use lib.Dec.{eqb}
 use lib.ListN.{length, getD, take, drop, length-drop, drop-of-length-le, take-append-drop}
 use lib.Seq.{append-snoc, take-all, drop-nil, drop-at}
@@ -19,14 +20,10 @@ use Rattle.bits.proofs.Gathering.{zero-in}
 use Rattle.board.specs.Malformed.{noOnes, zeroPast}
 use Rattle.board.specs.Promises.{PastHolds, PackedPast}
 
-both-assoc : (a b c : Bool) → (a && b) && c ≡ a && (b && c)
-both-assoc true b c = refl
-both-assoc false b c = refl
-
 noOnes-append : (xs ys : List Bool) → noOnes (xs ++ ys) ≡ noOnes xs && noOnes ys
 unfolding noOnes
 noOnes-append [] ys = refl
-noOnes-append (x ∷ xs) ys = ap (λ (b : Bool). not x && b) (noOnes-append xs ys) ∙ sym (both-assoc (not x) (noOnes xs) (noOnes ys))
+noOnes-append (x ∷ xs) ys = ap (λ (b : Bool). not x && b) (noOnes-append xs ys) ∙ sym (and-assoc (not x) (noOnes xs) (noOnes ys))
 
 drop-append : (n : ℕ) (xs ys : List Bool) → drop n (xs ++ ys) ≡ drop n xs ++ drop (n - length xs) ys
 drop-append n [] ys = rw (drop-nil {A = Bool} n, sub-zero n)
@@ -63,7 +60,7 @@ bits-drop : (k n x : ℕ) → drop k (bitsOf (k + n) x) ≡ bitsOf n (x / 2 ^ k)
 bits-drop k n x =
     ap (drop k) (sym (bits-more k n x)) ∙ drop-at (bitsOf k x) (bitsOf n (x / 2 ^ k)) k (length-bitsOf k x)
 
-pub none-above : (x bit : ℕ) → 8 ≤ bit → noOnes (drop bit (bitsOf 8 x)) ≡ true
+none-above : (x bit : ℕ) → 8 ≤ bit → noOnes (drop bit (bitsOf 8 x)) ≡ true
 unfolding noOnes
 none-above x bit h =
     let l : length (bitsOf 8 x) ≤ bit = omega (arith, length-bitsOf 8 x) in
@@ -82,7 +79,7 @@ part-above x bit l h =
         let p : 2 ^ (8 - bit + bit) ≡ 2 ^ 8 = ap (λ (k : ℕ). 2 ^ k) back in
         div-lt-iff-lt-mul (pow-pos bit) .1 (omega (arith, pow-add 2 (8 - bit) bit))
 
--- ---- a step of the loop
+-- ---- one octet, and those after it
 module _ (xs : List ℕ) (i n : ℕ) (h : i < length xs) where
   step : zeroPast n (drop i xs) ≡ noOnes (drop n (bitsOf 8 (getD xs i 0))) && zeroPast (n - 8) (drop (i + 1) xs)
   unfolding zeroPast
@@ -92,15 +89,60 @@ module _ (xs : List ℕ) (i n : ℕ) (h : i < length xs) where
       ∙ noOnes-append (drop n (bitsOf 8 (getD xs i 0))) (drop (n - length (bitsOf 8 (getD xs i 0))) (lineBits (drop (i + 1) xs)))
       ∙ ap (λ (k : ℕ). noOnes (drop n (bitsOf 8 (getD xs i 0))) && noOnes (drop (n - k) (lineBits (drop (i + 1) xs)))) (length-bitsOf 8 (getD xs i 0))
 
-  pub past-stops : noOnes (drop n (bitsOf 8 (getD xs i 0))) ≡ false → zeroPast n (drop i xs) ≡ false
-  past-stops e = step ∙ ap (λ (b : Bool). b && zeroPast (n - 8) (drop (i + 1) xs)) e
-
-  pub past-goes : noOnes (drop n (bitsOf 8 (getD xs i 0))) ≡ true → zeroPast n (drop i xs) ≡ zeroPast (n - 8) (drop (i + 1) xs)
+  past-goes : noOnes (drop n (bitsOf 8 (getD xs i 0))) ≡ true → zeroPast n (drop i xs) ≡ zeroPast (n - 8) (drop (i + 1) xs)
   past-goes e = step ∙ ap (λ (b : Bool). b && zeroPast (n - 8) (drop (i + 1) xs)) e
 
-pub past-ends : (xs : List ℕ) (i n : ℕ) → length xs ≤ i → zeroPast n (drop i xs) ≡ true
+  octet-and-rest : getD xs i 0 < 256 → n < 8 → zeroPast n (drop i xs) ≡ eqb (getD xs i 0 / 2 ^ n) 0 && zeroPast 0 (drop (i + 1) xs)
+  octet-and-rest l s =
+      let e : n - 8 ≡ 0 = omega arith in
+      step ∙ ap₂ (λ (a : Bool) (k : ℕ). a && zeroPast k (drop (i + 1) xs)) (part-above (getD xs i 0) n l s) e
+
+past-ends : (xs : List ℕ) (i n : ℕ) → length xs ≤ i → zeroPast n (drop i xs) ≡ true
 unfolding zeroPast noOnes lineBits
 past-ends xs i n h = ap (λ (l : List ℕ). noOnes (drop n (lineBits l))) (drop-of-length-le xs h) ∙ ap noOnes (drop-nil {A = Bool} n)
+
+-- whole octets of the first bits are passed over
+octets-past : (k n : ℕ) (xs : List ℕ) → zeroPast (k * 8 + n) xs ≡ zeroPast n (drop k xs)
+octets-past zero n xs = let e : zero * 8 + n ≡ n = omega arith in ap (λ (j : ℕ). zeroPast j xs) e
+octets-past (suc k) n [] = past-ends [] 0 (suc k * 8 + n) (omega arith) ∙ sym (past-ends [] (suc k) n (omega arith))
+octets-past (suc k) n (x ∷ xs) =
+    let e : suc k * 8 + n - 8 ≡ k * 8 + n = omega arith in
+    past-goes (x ∷ xs) 0 (suc k * 8 + n) (omega arith) (none-above x (suc k * 8 + n) (omega arith)) ∙ ap (λ (j : ℕ). zeroPast j xs) e ∙ octets-past k n xs
+
+-- ---- octets or-ed
+or-zero : (a b : ℕ) → eqb (bitOr a b) 0 ≡ eqb a 0 && eqb b 0
+or-zero a b = go (eqb a 0) (eqb b 0) refl refl
+  where
+    go : (x y : Bool) → eqb a 0 ≡ x → eqb b 0 ≡ y → eqb (bitOr a b) 0 ≡ x && y
+    go true true p q = eq-eqb (bitOr a b) 0 (omega (arith, or-add-and a b, eqb-true a 0 p, eqb-true b 0 q))
+    go true false p q = ne-eqb (bitOr a b) 0 (λ z. eqb-false b 0 q (omega (arith, or-add-and a b, and-le-l a b)))
+    go false y p q = ne-eqb (bitOr a b) 0 (λ z. eqb-false a 0 p (omega (arith, or-add-and a b, and-le-r a b)))
+
+-- the or of the octets looked at and the rest decide together: the next octet goes over from one to the other
+pub or-next : (xs : List ℕ) (i all : ℕ) → i < length xs → getD xs i 0 < 256
+    → eqb (bitOr all (getD xs i 0)) 0 && zeroPast 0 (drop (i + 1) xs) ≡ eqb all 0 && zeroPast 0 (drop i xs)
+or-next xs i all h l =
+    let e : getD xs i 0 ≡ getD xs i 0 / 2 ^ 0 = omega arith in
+    ap (λ (b : Bool). b && zeroPast 0 (drop (i + 1) xs)) (or-zero all (getD xs i 0))
+    ∙ and-assoc (eqb all 0) (eqb (getD xs i 0) 0) (zeroPast 0 (drop (i + 1) xs))
+    ∙ ap (λ (b : Bool). eqb all 0 && b) (ap (λ (y : ℕ). eqb y 0 && zeroPast 0 (drop (i + 1) xs)) e ∙ sym (octet-and-rest xs i 0 h l (omega arith)))
+
+pub or-ends : (xs : List ℕ) (i all : ℕ) → length xs ≤ i → eqb all 0 ≡ eqb all 0 && zeroPast 0 (drop i xs)
+or-ends xs i all h = sym (ap (λ (b : Bool). eqb all 0 && b) (past-ends xs i 0 h) ∙ and-true (eqb all 0))
+
+-- ---- the octet that the first bits end in
+module _ (xs : List ℕ) (n : ℕ) where
+  at-octet : zeroPast n xs ≡ zeroPast (n % 8) (drop (n / 8) xs)
+  at-octet = let e : n ≡ n / 8 * 8 + n % 8 = omega arith in ap (λ (j : ℕ). zeroPast j xs) e ∙ octets-past (n / 8) (n % 8) xs
+
+  pub all-taken : length xs ≤ n / 8 → zeroPast n xs ≡ true
+  all-taken h = at-octet ∙ past-ends xs (n / 8) (n % 8) h
+
+  pub or-decides : (rest : ℕ) → n / 8 < length xs → getD xs (n / 8) 0 < 256 → eqb rest 0 ≡ zeroPast 0 (drop (n / 8 + 1) xs)
+      → eqb (bitOr (getD xs (n / 8) 0 / 2 ^ (n % 8)) rest) 0 ≡ zeroPast n xs
+  or-decides rest h l e =
+      or-zero (getD xs (n / 8) 0 / 2 ^ (n % 8)) rest ∙ ap (λ (b : Bool). eqb (getD xs (n / 8) 0 / 2 ^ (n % 8)) 0 && b) e
+      ∙ sym (at-octet ∙ octet-and-rest xs (n / 8) (n % 8) h l (omega arith))
 
 -- ---- an area that is zero past n bits is the packing of those bits
 packed-zeros : (k : ℕ) (z g : List Bool) → noOnes z ≡ true → packed k (g ++ z) ≡ packed k g

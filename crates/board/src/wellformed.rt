@@ -10,44 +10,34 @@ use monitor::Mode;
 use monitor::Monitor;
 ghost use mathlib.Core.Path.{_≡_};
 ghost use mathlib.Core.Bool.{Bool, true, false, not, _&&_, _||_};
-ghost use Prim.Native.Nat.{ℕ, _-_};
-ghost use lib.ListN.{length, drop};
+ghost use lib.Dec.{eqb};
+ghost use lib.ListN.{drop};
 ghost use Rattle.bits.specs.Format.{basic};
-ghost use Rattle.bits.specs.Octets.{bitsOf};
-ghost use Rattle.board.specs.Malformed.{zeroPast, noOnes, within, inRange, lineOut, counterOut, countOut, monitorOut, transmitterOut, openMalformed, isOff, numbers, isNew, malformed};
+ghost use Rattle.board.specs.Malformed.{zeroPast, within, inRange, lineOut, counterOut, countOut, monitorOut, transmitterOut, openMalformed, isOff, numbers, isNew, malformed};
 ghost use Rattle.memory.specs.Lent.{zeros};
 
-// Whether an octet is zero from a bit on, lowest bit first.
-fn clear_above(octet: u8, bit: u16) -> bool
-    ensures { λ r. ⌜ r ≡ noOnes (drop bit (bitsOf 8 octet)) ⌝ }
+// All octets from a place on, or-ed: 0 if all are zero. A loop without an exit compiles to many octets a step.
+fn or_from(octets: &[u8], from: usize) -> u8
+    ensures { λ r. ⌜ eqb r 0 ≡ zeroPast 0 (drop from (now (octets .entry))) ⌝ }
 {
-    if bit >= 8 {
-        return true;
+    let mut all: u8 = 0;
+    let mut i = from;
+    while i < octets.len() {
+        all = all | octets[i];
+        i += 1;
     }
-    octet >> bit == 0
-}
-
-// Eight less, not below 0.
-fn eight_less(bits: u16) -> u16
-    ensures { λ r. ⌜ r ≡ bits - 8 ⌝ }
-{
-    if bits >= 8 { bits - 8 } else { 0 }
+    all
 }
 
 // Whether octets are zero past their first bits.
 fn zero_past(octets: &[u8], bits: u16) -> bool
     ensures { λ r. ⌜ r ≡ zeroPast bits (now (octets .entry)) ⌝ }
 {
-    let mut left = bits;
-    let mut i: usize = 0;
-    while i < octets.len() {
-        if !clear_above(octets[i], left) {
-            return false;
-        }
-        left = eight_less(left);
-        i += 1;
+    let at = (bits / 8) as usize;
+    if at >= octets.len() {
+        return true;
     }
-    true
+    ((octets[at] >> (bits % 8)) | or_from(octets, at + 1)) == 0
 }
 
 // Whether a number is one of a range.

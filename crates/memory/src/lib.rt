@@ -176,11 +176,16 @@ fn first_octets(area: &[u8; 279], count: usize) -> &[u8]
     }
 }
 
-// What stands at place i of a slot that holds a unit.
-fn octet_at(unit: &[u8], i: usize) -> u8
-    ensures { λ r. ⌜ r ≡ getD (now (unit .entry)) i 0 ⌝ }
+// Copies all octets to as many others.
+fn copy_octets(to: &mut [u8], from: &[u8])
+    requires { ⌜ length (now to) ≡ length (now from) ⌝ }
+    ensures { λ _. ⌜ now (to .exit) ≡ now (from .entry) ⌝ }
 {
-    if i < unit.len() { unit[i] } else { 0 }
+    let mut i: usize = 0;
+    while i < from.len() {
+        to[i] = from[i];
+        i += 1;
+    }
 }
 
 // Writes a unit into a slot, all 280 octets of it.
@@ -188,9 +193,7 @@ fn fill_slot(slot: &mut [u8], unit: &[u8])
     requires { ⌜ (length (now slot) ≡ 280) × (length (now unit) ≤ 280) ⌝ }
     ensures { λ _. ⌜ now (slot .exit) ≡ filled basic (now (unit .entry)) ⌝ }
 {
-    let mut i: usize = 0;
-    while i < slot.len() {
-        slot[i] = octet_at(unit, i);
-        i += 1;
-    }
+    let n = unit.len();
+    copy_octets(&mut slot[..n], unit);
+    wipe_octets(&mut slot[n..]);
 }

@@ -1,59 +1,58 @@
--- `memory::fill_slot` meets its contract: the unit and zeros after it are written octet by octet.
-use Prim.Native.Nat.{_-_}
-use mathlib.Core.Path.{sym, _∙_}
+-- `memory::fill_slot` meets its contract: the unit is copied to the slot's front, and what lies behind it is wiped.
+use mathlib.Core.Path.{_≡_, sym}
 use native.Mathlib.Omega.{arith}
-use lib.ListN.{length}
-use Rattle.bits.specs.Format.{basic}
-use Rattle.memory.specs.Lent.{filled}
-use Rattle.memory.proofs.Loops.{Written, write-start, write-more, write-end}
-use Rattle.memory.proofs.Slots.{filled-length}
-use Rattle.memory.proofs.Places.{filled-at}
+use borrow.Author.Needs.{needs}
+use lib.ListN.{length, take}
+use lib.Seq.{length-take-le}
+use Rattle.memory.proofs.Places.{fill-rest}
 use Rattle.memory.proofs.fill_slot.Statement.{statement}
 use Rattle.memory.proofs.fill_slot.Tie as tie
 
-abbrev Inv-loop : tie.InvT-loop
-Inv-loop slot₀ unit i₀ slot i = Written (filled basic unit) slot₀ slot i
+-- the slot's front has room for the unit
+front : (c : tie.After-copy-octets-arg) → let a = c .before .before .before .args in length (take (length (a .unit .now)) (a .slot .now)) ≡ length (a .unit .now)
+front c = let s = c .before .before .before in length-take-le _ (s .args .slot .now) (omega (arith, s .pre .0, s .pre .1))
 
-abbrev μ-loop : tie.MeasureT-loop
-μ-loop slot₀ unit i₀ slot i = length slot₀ - i
+slice-relend-prefix-copy-octets : tie.Need-slice-relend-prefix-copy-octets
+slice-relend-prefix-copy-octets c = search needs
 
-loop-holds : tie.Need-loop-holds Inv-loop μ-loop
-loop-holds c =
-    let s = c .before .before in
-    write-start _ _ (filled-length basic (s .args .unit .now) (s .pre .1) ∙ sym (s .pre .0))
+slice-aggregate-copy-octets : tie.Need-slice-aggregate-copy-octets
+slice-aggregate-copy-octets c = sym (front c)
 
-octet-at-requires : tie.Need-octet-at-requires Inv-loop μ-loop
-octet-at-requires c κs = tt
+copy-octets-requires : tie.Need-copy-octets-requires
+copy-octets-requires c κs = front c
 
-slice-write-slot : tie.Need-slice-write-slot Inv-loop μ-loop
-slice-write-slot c = omega arith
+sub-wipe-octets : tie.Need-sub-wipe-octets
+sub-wipe-octets c = search needs
 
-add-i : tie.Need-add-i Inv-loop μ-loop
-add-i c = omega arith
+part-wipe-octets-start : tie.Need-part-wipe-octets-start
+part-wipe-octets-start c = search needs
 
-loop-less : tie.Need-loop-less Inv-loop μ-loop
-loop-less c = omega (arith, c .before .before .loop .inv .long)
+part-wipe-octets-end : tie.Need-part-wipe-octets-end
+part-wipe-octets-end c = search needs
 
-loop-again : tie.Need-loop-again Inv-loop μ-loop
-loop-again c = let t = c .before in write-more (t .before .loop .inv) (t .loop-test .taken) (c .octet-at .ensures ∙ filled-at _ _)
+wipe-octets-requires : tie.Need-wipe-octets-requires
+wipe-octets-requires c κs = search needs
 
-same-length : tie.Need-same-length Inv-loop μ-loop
-same-length c = c .before .loop .inv .long
+same-length : tie.Need-same-length
+same-length c = search needs
 
-returns : tie.Need-returns Inv-loop μ-loop
-returns c = write-end (c .before .loop .inv) (c .loop-test .left)
+returns : tie.Need-returns
+returns c =
+    let w = c .before .before in
+    let f = w .before .before .before .before in
+    let s = f .before .before .before .before in
+    fill-rest (s .args .unit .now) (s .args .slot .now) (s .pre .0) (s .pre .1) (f .copy-octets .ensures) (w .wipe-octets .ensures)
 
 pub fill-slot-spec : {M : Type 1} → statement M
 fill-slot-spec =
     tie.close
     (tie.spec
-    Inv-loop
-    μ-loop
-    loop-holds
-    octet-at-requires
-    slice-write-slot
-    add-i
-    loop-less
-    loop-again
+    slice-relend-prefix-copy-octets
+    slice-aggregate-copy-octets
+    copy-octets-requires
+    sub-wipe-octets
+    part-wipe-octets-start
+    part-wipe-octets-end
+    wipe-octets-requires
     same-length
     returns)
