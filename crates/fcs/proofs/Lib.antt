@@ -2,3 +2,6 @@
 pub mod Xor
 pub mod Linear
 pub mod Residue
+pub mod Rest
+pub mod Octetwise
+pub mod Fours

@@ -2,17 +2,19 @@
 use mathlib.Core.Path.{_≡_, refl, sym, ap, ap₂, _∙_}
 use mathlib.Core.Bool.{Bool, true, false}
 use mathlib.Core.List.{List, [], _∷_}
-use Prim.Native.Nat.{ℕ, zero, suc, _/_, _%_, _^_, _<_}
+use Prim.Native.Nat.{ℕ, zero, suc, _+_, _/_, _%_, _^_, _<_}
 use native.Mathlib.Nat.{div-one}
 use native.Mathlib.Numerals.{one-add}
 use native.Mathlib.Omega.{arith}
 use lib.Dec.{eqb}
-use lib.ListN.{length}
+use lib.ListN.{length, replicate, replicate-append-replicate}
 use lib.Pow.{shr-shr}
-use lib.Bits.{bitXor, differ, xor-lt}
+use lib.Bits.{bitXor, differ, xor-comm, xor-lt}
 use Rattle.bits.specs.Octets.{odd, bitsOf}
+use Rattle.bits.proofs.Machines.{run-append}
 use Rattle.fcs.specs.Check.{generator, differs, added, checkBit, checkBits}
-use Rattle.fcs.proofs.Xor.{xor-low, xor-half, xor-assoc}
+use Rattle.fcs.specs.Table.{zeros}
+use Rattle.fcs.proofs.Xor.{xor-low, xor-half, xor-assoc, twice-left}
 
 -- x's bits, lowest first, each turned where bs has a one
 abbrev pub mixed : ℕ → List Bool → List Bool
@@ -62,6 +64,29 @@ pub bits-xor : (k x y : ℕ) → bitsOf k (bitXor x y) ≡ mixed x (bitsOf k y)
 unfolding bitsOf
 bits-xor zero x y = refl
 bits-xor (suc k) x y = ap₂ {C = List Bool} (λ b bs. b ∷ bs) (odd-xor x y) (ap (bitsOf k) (xor-half x y) ∙ bits-xor k (x / 2) (y / 2))
+
+-- ---- zero bits: registers added take them as each alone, added
+fall-xor : (p q : Bool) (a b : ℕ)
+    → added (differs (differs p q) false) (bitXor a b) ≡ bitXor (added (differs p false) a) (added (differs q false) b)
+fall-xor true true a b =
+    sym (ap (bitXor a) (twice-left generator b))
+    ∙ sym (xor-assoc a generator (bitXor generator b))
+    ∙ ap (bitXor (bitXor a generator)) (xor-comm generator b)
+fall-xor true false a b = xor-assoc a b generator ∙ ap (bitXor a) (xor-comm b generator) ∙ sym (xor-assoc a generator b)
+fall-xor false true a b = xor-assoc a b generator
+fall-xor false false a b = refl
+
+zero-xor : (x y : ℕ) → checkBit (bitXor x y) false ≡ bitXor (checkBit x false) (checkBit y false)
+zero-xor x y =
+    ap₂ added (ap (λ (p : Bool). differs p false) (odd-xor x y)) (xor-half x y) ∙ fall-xor (odd x) (odd y) (x / 2) (y / 2)
+
+pub zeros-xor : (n x y : ℕ) → zeros n (bitXor x y) ≡ bitXor (zeros n x) (zeros n y)
+zeros-xor zero x y = refl
+zeros-xor (suc n) x y = ap (zeros n) (zero-xor x y) ∙ zeros-xor n (checkBit x false) (checkBit y false)
+
+pub zeros-add : (m n r : ℕ) → zeros (m + n) r ≡ zeros n (zeros m r)
+zeros-add m n r =
+    sym (ap (checkBits r) (replicate-append-replicate m n false)) ∙ run-append checkBit (replicate m false) (replicate n false) r
 
 -- the register stays within sixteen bits
 added-lt : (f : Bool) (r : ℕ) → r < 2 ^ 16 → added f r < 2 ^ 16

@@ -1,9 +1,9 @@
--- What the library lacks of xor: the lowest bit of a result, and that it is associative.
+-- What the library lacks of xor: the lowest bit of a result, that it is associative, and that what is added twice is gone.
 use mathlib.Core.Path.{_≡_, refl, sym, ap, ap₂, _∙_}
 use Prim.Native.Nat.{ℕ, zero, suc, _+_, _*_, _/_, _%_, _<_}
 use native.Mathlib.Omega.{arith}
 use lib.Arith.{bin-ind}
-use lib.Bits.{bitXor, differ, xor-step, xor-shr, xor-mod}
+use lib.Bits.{bitXor, differ, xor-step, xor-shr, xor-mod, xor-zero-l, xor-zero-r, xor-self}
 
 two : (n : ℕ) → n % 2 < 2
 two n = omega arith
@@ -40,3 +40,9 @@ xor-assoc =
     (ap (λ (d : ℕ). differ d (c % 2)) (xor-low n b) ∙ thrice (n % 2) (b % 2) (c % 2) (two n) (two b) (two c)
     ∙ ap (differ (n % 2)) (sym (xor-low b c)))
     ∙ sym (xor-step n (bitXor b c)))
+
+pub twice-right : (a b : ℕ) → bitXor (bitXor a b) b ≡ a
+twice-right a b = xor-assoc a b b ∙ ap (bitXor a) (xor-self b) ∙ xor-zero-r a
+
+pub twice-left : (a b : ℕ) → bitXor a (bitXor a b) ≡ b
+twice-left a b = sym (xor-assoc a a b) ∙ ap (λ (n : ℕ). bitXor n b) (xor-self a) ∙ xor-zero-l b

@@ -3,6 +3,9 @@ ghost use mathlib.Core.Path.{_≡_};
 ghost use Prim.Native.Nat.{_<_};
 ghost use Rattle.bits.specs.Octets.{bitsOf};
 ghost use Rattle.fcs.specs.Check.{checkBit, checkBits, checkOf, checkOctets};
+ghost use Rattle.fcs.specs.Table.{checkTable};
+
+mod table;
 
 // One bit into the check register.
 fn check_bit(register: u16, bit: bool) -> u16
@@ -42,6 +45,36 @@ pub fn check(octets: &[u8]) -> u16
         i += 1;
     }
     reg
+}
+
+// The table, to be lent to the check: made once for a call.
+pub fn check_table() -> [u16; 1024]
+    ensures { λ r. ⌜ r ≡ checkTable ⌝ }
+{
+    table::TABLE
+}
+
+// The register after a run of octets, from the preset: four octets at a time, and the last up to three one at a time.
+pub fn check_by_table(octets: &[u8], table: &[u16; 1024]) -> u16
+    requires { ⌜ now table ≡ checkTable ⌝ }
+    ensures { λ r. ⌜ r ≡ checkOf (now (octets .entry)) ⌝ }
+{
+    let mut register: u16 = 0xffff;
+    let mut at: usize = 0;
+    while octets.len() - at >= 4 {
+        let low = (register ^ octets[at] as u16) % 256;
+        let high = (register / 256) ^ octets[at + 1] as u16;
+        register = table[768 + low as usize]
+            ^ table[512 + high as usize]
+            ^ table[256 + octets[at + 2] as usize]
+            ^ table[octets[at + 3] as usize];
+        at += 4;
+    }
+    while at < octets.len() {
+        register = (register / 256) ^ table[((register ^ octets[at] as u16) % 256) as usize];
+        at += 1;
+    }
+    register
 }
 
 // The two check octets that go behind a unit's content.

@@ -14,6 +14,7 @@ ghost use Prim.Native.Nat.{ℕ, _+_, _*_, _≤_};
 ghost use lib.ListN.{length};
 ghost use Rattle.board.specs.InnerRanges.{SettingsInRange, MonitorInRange};
 ghost use Rattle.board.specs.Limits.{recordOctets, monitorLimits};
+ghost use Rattle.fcs.specs.Table.{checkTable};
 ghost use Rattle.framing.specs.Delimitation.{Finding};
 ghost use Rattle.units.specs.Indications.{Indication, octetEnd, found as found-indication};
 ghost use Rattle.indications.specs.InnerWriting.{NotedAndRecorded, Able, StandsIn, Shown, areaAfter, holding, indicationsDone};
@@ -26,7 +27,7 @@ pub struct Progress {
 }
 
 // What happened is noted by the monitor and recorded.
-fn note_and_record(
+pub fn note_and_record(
     s: Settings,
     taken: Taken,
     supervision: Supervision,
@@ -54,7 +55,7 @@ fn note_and_record(
     }
 }
 
-// What one finding does. A closed unit stands in the area, which is clear afterwards.
+// What one finding does. A closed unit stands in the area, which is clear afterwards; the check's table is lent.
 pub fn take_found(
     s: Settings,
     p: Progress,
@@ -63,9 +64,11 @@ pub fn take_found(
     pool: &mut [u8],
     descriptors: &mut [u16],
     out: &mut [u8],
+    table: &[u16; 1024],
 ) -> Progress
     requires { ⌜ Able s p (now pool) (now descriptors) (now out) ⌝ }
     requires { ⌜ StandsIn found (now area) ⌝ }
+    requires { ⌜ now table ≡ checkTable ⌝ }
     ensures { λ r. ⌜ ((fs : List Finding) → Shown fs found (now (area .entry)) → holding r (now (pool .exit)) (now (descriptors .exit)) (now (out .exit)) ≡ indicationsDone s (holding p (now (pool .entry)) (now (descriptors .entry)) (now (out .entry))) (map found-indication fs)) ⌝ }
     ensures { λ _. ⌜ now (area .exit) ≡ areaAfter found (now (area .entry)) ⌝ }
 {
@@ -73,7 +76,15 @@ pub fn take_found(
         Found::Nothing => p,
         Found::Closed(bits) => {
             let units = p.units;
-            let taken = units::closed_unit(s, units, &*area, bits, &mut *pool, &mut *descriptors);
+            let taken = units::closed_unit(
+                s,
+                units,
+                &*area,
+                bits,
+                &mut *pool,
+                &mut *descriptors,
+                table,
+            );
             framing::area::clear(&mut *area, bits + 7);
             let supervision = p.supervision;
             note_and_record(s, taken, supervision, p.count, &mut *out)

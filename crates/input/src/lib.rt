@@ -17,7 +17,13 @@ pub struct Received {
 }
 
 // The number that receive answers.
-fn receive_number(link: Link, octets: &[u8], pool: &[u8], descriptors: &[u16], records: &[u8]) -> u8
+pub fn receive_number(
+    link: Link,
+    octets: &[u8],
+    pool: &[u8],
+    descriptors: &[u16],
+    records: &[u8],
+) -> u8
     ensures { λ r. ⌜ r ≡ receiveNumber link (now (octets .entry)) (now (pool .entry)) (now (descriptors .entry)) (now (records .entry)) ⌝ }
 {
     let malformed = wellformed::is_malformed(link);
@@ -32,7 +38,7 @@ fn receive_number(link: Link, octets: &[u8], pool: &[u8], descriptors: &[u16], r
 }
 
 // What line octets work on, with no record written yet.
-fn progress_of(link: Link) -> Progress
+pub fn progress_of(link: Link) -> Progress
     ensures { λ r. ⌜ r ≡ progressOf link ⌝ }
 {
     let units = link.units;
@@ -45,7 +51,7 @@ fn progress_of(link: Link) -> Progress
 }
 
 // The link after line octets: what none of them touches stays.
-fn link_received(link: Link, line: Gathering, q: Progress) -> Link
+pub fn link_received(link: Link, line: Gathering, q: Progress) -> Link
     ensures { λ r. ⌜ r ≡ withReception link line (q .units) (q .supervision) ⌝ }
 {
     let mut l = link;
@@ -79,7 +85,18 @@ pub fn receive(
     let s = link.settings;
     let mut g = link.line;
     let state = g.state;
-    let passed = reception::take_line(s, state, p, octets, &mut g.area, pool, descriptors, records);
+    let table = fcs::check_table();
+    let passed = reception::take_line(
+        s,
+        state,
+        p,
+        octets,
+        &mut g.area,
+        pool,
+        descriptors,
+        records,
+        &table,
+    );
     let line = passed.line;
     g.state = line;
     let q = passed.progress;

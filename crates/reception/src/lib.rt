@@ -2,11 +2,13 @@
 use board::Settings;
 use framing::Line;
 use indications::Progress;
+ghost use mathlib.Core.Path.{_≡_};
 ghost use mathlib.Core.List.{[], _∷_};
 ghost use Prim.Native.Nat.{_+_, _*_, _≤_};
 ghost use lib.ListN.{length};
 ghost use Rattle.board.specs.InnerRanges.{SettingsInRange};
 ghost use Rattle.board.specs.Limits.{recordOctets, recordRoom, monitorLimits};
+ghost use Rattle.fcs.specs.Table.{checkTable};
 ghost use Rattle.framing.specs.InnerReading.{wellFormed};
 ghost use Rattle.indications.specs.InnerWriting.{Able, holding};
 ghost use Rattle.reception.specs.InnerWriting.{StateInRange, LineTaken};
@@ -17,8 +19,8 @@ pub struct Passed {
     pub progress: Progress,
 }
 
-// One line octet: its bits up to each finding, what that does, and the octet's end.
-fn take_octet(
+// One line octet: its bits up to each finding, what that does, and the octet's end. The check's table is lent.
+pub fn take_octet(
     s: Settings,
     line: Line,
     p: Progress,
@@ -27,9 +29,11 @@ fn take_octet(
     pool: &mut [u8],
     descriptors: &mut [u16],
     out: &mut [u8],
+    table: &[u16; 1024],
 ) -> Passed
     requires { ⌜ Able s p (now pool) (now descriptors) (now out) ⌝ }
     requires { ⌜ wellFormed (s .m) line (now area) × (recordOctets * p .count + recordRoom ≤ length (now out)) ⌝ }
+    requires { ⌜ now table ≡ checkTable ⌝ }
     ensures { λ r. ⌜ LineTaken s line (now (area .entry)) (octet ∷ []) (holding p (now (pool .entry)) (now (descriptors .entry)) (now (out .entry))) r (now (area .exit)) (holding (r .progress) (now (pool .exit)) (now (descriptors .exit)) (now (out .exit))) ⌝ }
 {
     let mut cur = line;
@@ -51,6 +55,7 @@ fn take_octet(
             &mut *pool,
             &mut *descriptors,
             &mut *out,
+            table,
         );
     }
     let done = indications::end_octet(s, q, &mut *out);
@@ -60,7 +65,7 @@ fn take_octet(
     }
 }
 
-// Line octets, in their order.
+// Line octets, in their order. The check's table is lent.
 pub fn take_line(
     s: Settings,
     line: Line,
@@ -70,9 +75,11 @@ pub fn take_line(
     pool: &mut [u8],
     descriptors: &mut [u16],
     out: &mut [u8],
+    table: &[u16; 1024],
 ) -> Passed
     requires { ⌜ SettingsInRange s × StateInRange s (holding p (now pool) (now descriptors) (now out)) ⌝ }
     requires { ⌜ wellFormed (s .m) line (now area) × (recordOctets * p .count + recordRoom * length (now octets) ≤ length (now out)) × (length (now octets) ≤ 1024) ⌝ }
+    requires { ⌜ now table ≡ checkTable ⌝ }
     ensures { λ r. ⌜ LineTaken s line (now (area .entry)) (now (octets .entry)) (holding p (now (pool .entry)) (now (descriptors .entry)) (now (out .entry))) r (now (area .exit)) (holding (r .progress) (now (pool .exit)) (now (descriptors .exit)) (now (out .exit))) ⌝ }
 {
     let mut cur = line;
@@ -88,6 +95,7 @@ pub fn take_line(
             &mut *pool,
             &mut *descriptors,
             &mut *out,
+            table,
         );
         cur = passed.line;
         q = passed.progress;

@@ -19,6 +19,7 @@ ghost use Prim.Native.Nat.{ℕ, _+_, _-_, _≤_, _<_};
 ghost use lib.Dec.{eqb};
 ghost use lib.ListN.{length, take, getD};
 ghost use Rattle.bits.specs.Octets.{lineBits, packed};
+ghost use Rattle.fcs.specs.Table.{checkTable};
 ghost use Rattle.memory.specs.Lent.{statusWord, statusOf};
 ghost use Rattle.units.specs.Units.{unitMemory, effect, unitStateOf, firstFive, counted, goodUnit, erroredUnit, shortTaken, closedUnit, broken, tickOf};
 ghost use Rattle.units.specs.InnerFit.{Fits};
@@ -256,7 +257,7 @@ fn short_unit(units: UnitState, area: &[u8; 279], count: u16) -> Taken
     }
 }
 
-// A closed unit of `bits` bits at the front of the area, by its verdict.
+// A closed unit of `bits` bits at the front of the area, by its verdict, with the check's table.
 pub fn closed_unit(
     s: Settings,
     units: UnitState,
@@ -264,12 +265,14 @@ pub fn closed_unit(
     bits: u16,
     pool: &mut [u8],
     descriptors: &mut [u16],
+    table: &[u16; 1024],
 ) -> Taken
     requires { ⌜ Fits s units (now pool) (now descriptors) ⌝ }
     requires { ⌜ (bits ≤ 2224) × (now area ≡ packed 279 (take (bits + 7) (lineBits (now area)))) ⌝ }
+    requires { ⌜ now table ≡ checkTable ⌝ }
     ensures { λ r. ⌜ effect (unitMemory (r .units) (now (pool .exit)) (now (descriptors .exit))) (r .happening ∷ []) ≡ closedUnit s (unitMemory units (now (pool .entry)) (now (descriptors .entry))) (take bits (lineBits (now (area .entry)))) ⌝ }
 {
-    let verdict = framing::unit::verdict(area, bits);
+    let verdict = framing::unit::verdict(area, bits, table);
     let count = bits / 8;
     match verdict {
         Verdict::Short => short_unit(units, area, count),

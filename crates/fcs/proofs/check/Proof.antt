@@ -1,30 +1,20 @@
 -- `fcs::check` meets its contract: the octets that are left, fed to the register, give the whole.
-use mathlib.Core.Path.{_≡_, refl, sym, ap, _∙_}
-use mathlib.Core.List.{List}
-use Prim.Native.Nat.{ℕ, _+_, _-_, _≤_, _<_}
+use Prim.Native.Nat.{_-_}
 use native.Mathlib.Omega.{arith}
 use borrow.Author.Needs.{needs}
-use lib.ListN.{length, drop, getD, drop-of-length-le}
-use Rattle.bits.specs.Octets.{bitsOf, lineBits}
-use Rattle.bits.proofs.Machines.{run-append}
-use Rattle.bits.proofs.Lines.{line-drop}
-use Rattle.fcs.specs.Check.{checkBit, checkBits, checkOf}
+use lib.ListN.{length}
+use Rattle.fcs.proofs.Rest.{Rest, start, next, done}
 use Rattle.fcs.proofs.check.Statement.{statement}
 use Rattle.fcs.proofs.check.Tie as tie
 
 abbrev Inv-loop : tie.InvT-loop
-Inv-loop octets reg₀ i₀ reg i = (i ≤ length octets) × (checkBits reg (lineBits (drop i octets)) ≡ checkBits 0xffff (lineBits octets))
+Inv-loop octets reg₀ i₀ reg i = Rest octets reg i
 
 abbrev μ-loop : tie.MeasureT-loop
 μ-loop octets reg₀ i₀ reg i = length octets - i
 
-next : (s : List ℕ) (i r : ℕ) → i < length s
-    → checkBits r (lineBits (drop i s)) ≡ checkBits (checkBits r (bitsOf 8 (getD s i 0))) (lineBits (drop (i + 1) s))
-next s i r h =
-    ap (checkBits r) (line-drop s i h) ∙ run-append checkBit (bitsOf 8 (getD s i 0)) (lineBits (drop (i + 1) s)) r
-
 loop-holds : tie.Need-loop-holds Inv-loop μ-loop
-loop-holds c = (omega arith, refl)
+loop-holds c = start (c .before .args .octets .now)
 
 shared-slice-read-check-octet : tie.Need-shared-slice-read-check-octet Inv-loop μ-loop
 shared-slice-read-check-octet c = omega arith
@@ -42,15 +32,12 @@ loop-again : tie.Need-loop-again Inv-loop μ-loop
 loop-again c =
     let l = c .before .before .before .loop in
     let s = c .before .before .before .before .before .args .octets .now in
-    (omega arith, rw (c .check-octet .ensures) (sym (next s (l .i) (l .reg) (c .before .before .loop-test .taken)) ∙ l .inv .1))
+    next s (l .reg) (l .i) (c .check-octet .result) (c .before .before .loop-test .taken) (c .check-octet .ensures) (l .inv)
 
 returns : tie.Need-returns Inv-loop μ-loop
-unfolding checkOf lineBits
 returns c =
     let l = c .before .loop in
-    let s = c .before .before .before .args .octets .now in
-    let h : length s ≤ l .i = omega arith in
-    sym (ap (λ (r : List ℕ). checkBits (l .reg) (lineBits r)) (drop-of-length-le s h)) ∙ l .inv .1
+    done (c .before .before .before .args .octets .now) (l .reg) (l .i) (omega arith) (l .inv)
 
 pub check-spec : {M : Type 1} → statement M
 check-spec =

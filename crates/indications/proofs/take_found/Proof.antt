@@ -15,19 +15,19 @@ closed-unit-requires : tie.Need-closed-unit-requires
 closed-unit-requires c κs =
     let s = c .before .before .before .before .before .before .before .before .before .before in
     let d = c .before .before .before .before .before in
-    (s .pre .0 .fits, stands (s .args .found) (d .found .given .0 .0) (s .args .area .now) (d .found .given .1) (s .pre .1))
+    (s .pre .0 .fits, (stands (s .args .found) (d .found .given .0 .0) (s .args .area .now) (d .found .given .1) (s .pre .1 .0), s .pre .1 .1))
 
 add-clear : tie.Need-add-clear
 add-clear c =
     let s = c .before .before .before .before .before .before .before .before .before .before .before .before .before .before .before .before in
     let d = c .before .before .before .before .before .before .before .before .before .before .before in
-    omega (arith, stands (s .args .found) (d .found .given .0 .0) (s .args .area .now) (d .found .given .1) (s .pre .1) .0)
+    omega (arith, stands (s .args .found) (d .found .given .0 .0) (s .args .area .now) (d .found .given .1) (s .pre .1 .0) .0)
 
 clear-requires : tie.Need-clear-requires
 clear-requires c κs =
     let s = c .before .before .before .before .before .before .before .before .before .before .before .before .before .before .before .before in
     let d = c .before .before .before .before .before .before .before .before .before .before .before in
-    let w = stands (s .args .found) (d .found .given .0 .0) (s .args .area .now) (d .found .given .1) (s .pre .1) in
+    let w = stands (s .args .found) (d .found .given .0 .0) (s .args .area .now) (d .found .given .1) (s .pre .1 .0) in
     (omega (arith, w .0), w .1)
 
 note-and-record-requires : tie.Need-note-and-record-requires

@@ -33,19 +33,22 @@ returns c =
 progress-of-requires : tie.Need-progress-of-requires
 progress-of-requires c κs = search needs
 
+check-table-requires : tie.Need-check-table-requires
+check-table-requires c κs = search needs
+
 take-line-requires : tie.Need-take-line-requires
 take-line-requires c κs =
-    let s = c .before .before .before .before .before .before .before .before .before .before .before .before .before .before .before .before .before in
+    let s = c .before .before .before .before .before .before .before .before .before .before .before .before .before .before .before .before .before .before .before in
     let a = s .args in
-    let n = c .before .before .before .before .before .before .before .before .before .receive-number .ensures in
-    let ok = receivable (a .link) (a .octets .now) (a .pool .now) (a .descriptors .now) (a .records .now) (sym n ∙ c .before .before .before .before .before .before .before .before .if1 .left) in
+    let n = c .before .before .before .before .before .before .before .before .before .before .before .receive-number .ensures in
+    let ok = receivable (a .link) (a .octets .now) (a .pool .now) (a .descriptors .now) (a .records .now) (sym n ∙ c .before .before .before .before .before .before .before .before .before .before .if1 .left) in
     let typed = array-of-octets 279 (a .link .line .area) _ (s .good .0 .1 .1 .1 .1 .0 .1 .1 .1 .0) in
-    let p = c .before .before .before .before .before .before .before .progress-of .ensures in (
+    let p = c .before .before .before .before .before .before .before .before .before .progress-of .ensures in (
       (
         ok .formed .settings,
         subst (λ (x : Progress). StateInRange (a .link .settings) (holding x (a .pool .now) (a .descriptors .now) (a .records .now))) (sym p) (ready (a .link) (a .octets .now) (a .pool .now) (a .descriptors .now) (a .records .now) ok),
       ),
-      (held (a .link) (a .octets .now) (a .pool .now) (a .descriptors .now) (a .records .now) ok typed, subst (λ (x : Progress). recordOctets * x .count + recordRoom * length (a .octets .now) ≤ length (a .records .now)) (sym p) (omega (arith, ok .room)), ok .few),
+      ((held (a .link) (a .octets .now) (a .pool .now) (a .descriptors .now) (a .records .now) ok typed, subst (λ (x : Progress). recordOctets * x .count + recordRoom * length (a .octets .now) ≤ length (a .records .now)) (sym p) (omega (arith, ok .room)), ok .few), c .before .before .before .before .before .check-table .ensures),
     )
 
 link-received-requires : tie.Need-link-received-requires
@@ -62,11 +65,11 @@ same-length-6 c = search needs
 
 returns-2 : tie.Need-returns-2
 returns-2 c =
-    let a = c .before .before .before .before .before .before .before .before .before .before .before .before .before .before .before .before .before .before .before .before .before .before .before .before .before .before .before .args in
-    let n = c .before .before .before .before .before .before .before .before .before .before .before .before .before .before .before .before .before .before .before .receive-number in
-    let z = c .before .before .before .before .before .before .before .before .before .before .before .before .before .before .before .before .before .before .if1 .left in
+    let a = c .before .before .before .before .before .before .before .before .before .before .before .before .before .before .before .before .before .before .before .before .before .before .before .before .before .before .before .before .before .args in
+    let n = c .before .before .before .before .before .before .before .before .before .before .before .before .before .before .before .before .before .before .before .before .before .receive-number in
+    let z = c .before .before .before .before .before .before .before .before .before .before .before .before .before .before .before .before .before .before .before .before .if1 .left in
     let ok = receivable (a .link) (a .octets .now) (a .pool .now) (a .descriptors .now) (a .records .now) (sym (n .ensures) ∙ z) in
-    let p = c .before .before .before .before .before .before .before .before .before .before .before .before .before .before .before .before .before .progress-of .ensures in
+    let p = c .before .before .before .before .before .before .before .before .before .before .before .before .before .before .before .before .before .before .before .progress-of .ensures in
     let t = c .before .before .before .before .before .before .before .before .before .take-line in
     receive-done (a .link) (a .octets .now) (a .pool .now) (a .descriptors .now) (a .records .now) (n .result) (n .ensures) (t .result) (t .last .1 .1 .1 .1 .0) (t .last .1 .1 .1 .1 .1 .0) (t .last .1 .1 .1 .1 .1 .1 .0)
     (t .last .1 .1 .1 .1 .1 .1 .1 .0) (c .link-received .result) z (ok .formed .settings .m .1)
@@ -85,6 +88,7 @@ receive-spec =
     same-length-3
     returns
     progress-of-requires
+    check-table-requires
     take-line-requires
     link-received-requires
     same-length-4

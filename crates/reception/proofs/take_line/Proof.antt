@@ -10,18 +10,18 @@ use Rattle.reception.specs.InnerWriting.{LineTaken}
 use Rattle.reception.proofs.Lines.{taken-none, taken-next, taken-all, same-out, room-left, next-able}
 
 abbrev Inv-loop : tie.InvT-loop
-Inv-loop s octets area₀ pool₀ descriptors₀ out₀ cur₀ q₀ at₀ area pool descriptors out cur q at =
+Inv-loop s octets area₀ pool₀ descriptors₀ out₀ table cur₀ q₀ at₀ area pool descriptors out cur q at =
     (at ≤ length octets)
     × LineTaken s cur₀ area₀ (take at octets) (holding q₀ pool₀ descriptors₀ out₀) (record { line = cur; progress = q }) area (holding q pool descriptors out)
 
 abbrev μ-loop : tie.MeasureT-loop
-μ-loop s octets area₀ pool₀ descriptors₀ out₀ cur₀ q₀ at₀ area pool descriptors out cur q at = length octets - at
+μ-loop s octets area₀ pool₀ descriptors₀ out₀ table cur₀ q₀ at₀ area pool descriptors out cur q at = length octets - at
 
 loop-holds : tie.Need-loop-holds Inv-loop μ-loop
 loop-holds c =
     let a = c .before .before .before .before .args in
     let p = c .before .before .before .before .pre in
-    (omega arith, taken-none (a .s) (a .line) (a .area .now) (holding (a .p) (a .pool .now) (a .descriptors .now) (a .out .now)) (a .p) (a .pool .now) (a .descriptors .now) (a .out .now) refl (p .1 .0) (p .0 .1))
+    (omega arith, taken-none (a .s) (a .line) (a .area .now) (holding (a .p) (a .pool .now) (a .descriptors .now) (a .out .now)) (a .p) (a .pool .now) (a .descriptors .now) (a .out .now) refl (p .1 .0 .0) (p .0 .1))
 
 shared-slice-read-take-octet : tie.Need-shared-slice-read-take-octet Inv-loop μ-loop
 shared-slice-read-take-octet c = c .before .loop-test .taken
@@ -31,11 +31,11 @@ take-octet-requires c κs =
     let a = c .before .before .before .before .before .before .before .before .before .before .before .args in
     let p = c .before .before .before .before .before .before .before .before .before .before .before .pre in
     let l = c .before .before .before .before .before .before .loop in
-    let k = room-left (a .s) (a .line) (a .area .now) (holding (a .p) (a .pool .now) (a .descriptors .now) (a .out .now)) (a .octets .now) (l .at) (c .before .before .before .before .before .loop-test .taken) (record { line = l .cur; progress = l .q }) (l .area) (holding (l .q) (l .pool) (l .descriptors) (l .out)) (p .1 .1) (l .inv .1) in
-    (next-able (a .s) (l .q) (l .pool) (l .descriptors) (l .out) (p .0 .0) (l .inv .1 .ready) k, (l .inv .1 .held, k))
+    let k = room-left (a .s) (a .line) (a .area .now) (holding (a .p) (a .pool .now) (a .descriptors .now) (a .out .now)) (a .octets .now) (l .at) (c .before .before .before .before .before .loop-test .taken) (record { line = l .cur; progress = l .q }) (l .area) (holding (l .q) (l .pool) (l .descriptors) (l .out)) (p .1 .0 .1) (l .inv .1) in
+    (next-able (a .s) (l .q) (l .pool) (l .descriptors) (l .out) (p .0 .0) (l .inv .1 .ready) k, ((l .inv .1 .held, k), p .1 .1))
 
 add-at : tie.Need-add-at Inv-loop μ-loop
-add-at c = omega (arith, c .before .before .before .before .before .before .before .before .before .before .before .before .before .before .loop-test .taken, c .before .before .before .before .before .before .before .before .before .before .before .before .before .before .before .before .before .before .before .before .pre .1 .2)
+add-at c = omega (arith, c .before .before .before .before .before .before .before .before .before .before .before .before .before .before .loop-test .taken, c .before .before .before .before .before .before .before .before .before .before .before .before .before .before .before .before .before .before .before .before .pre .1 .0 .2)
 
 loop-less : tie.Need-loop-less Inv-loop μ-loop
 loop-less c = omega (arith, c .before .before .before .before .before .before .before .before .before .before .before .before .before .before .loop-test .taken)

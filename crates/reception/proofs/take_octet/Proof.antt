@@ -10,18 +10,18 @@ use Rattle.indications.specs.InnerWriting.{holding}
 use Rattle.reception.proofs.Octets.{Between, at-start, able, stands-in, shown, less, turn, ended}
 
 abbrev Inv-loop : tie.InvT-loop
-Inv-loop s octet area₀ pool₀ descriptors₀ out₀ cur₀ rest₀ left₀ q₀ area pool descriptors out cur rest left q =
+Inv-loop s octet area₀ pool₀ descriptors₀ out₀ table cur₀ rest₀ left₀ q₀ area pool descriptors out cur rest left q =
     Between s cur₀ area₀ octet (holding q₀ pool₀ descriptors₀ out₀) area pool descriptors out cur rest left q
 
 abbrev μ-loop : tie.MeasureT-loop
-μ-loop s octet area₀ pool₀ descriptors₀ out₀ cur₀ rest₀ left₀ q₀ area pool descriptors out cur rest left q =
+μ-loop s octet area₀ pool₀ descriptors₀ out₀ table cur₀ rest₀ left₀ q₀ area pool descriptors out cur rest left q =
     left
 
 loop-holds : tie.Need-loop-holds Inv-loop μ-loop
 loop-holds c =
     let a = c .before .before .before .args in
     let p = c .before .before .before .pre in
-    at-start (a .s) (a .line) (a .area .now) (a .pool .now) (a .descriptors .now) (a .out .now) (a .octet) (a .p) (p .0) (p .1 .0) (p .1 .1)
+    at-start (a .s) (a .line) (a .area .now) (a .pool .now) (a .descriptors .now) (a .out .now) (a .octet) (a .p) (p .0) (p .1 .0 .0) (p .1 .0 .1)
 
 feed-requires : tie.Need-feed-requires Inv-loop μ-loop
 feed-requires c κs =
@@ -30,11 +30,12 @@ feed-requires c κs =
 
 take-found-requires : tie.Need-take-found-requires Inv-loop μ-loop
 take-found-requires c κs =
-    let a = c .before .before .before .before .before .before .before .before .before .before .before .before .before .args in
+    let b = c .before .before .before .before .before .before .before .before .before .before .before .before .before in
+    let a = b .args in
     let l = c .before .before .before .before .before .before .before .before .before .loop in
     let f = c .before .before .before .before .before .before .feed in (
       able (a .s) (a .line) (a .area .now) (a .octet) (holding (a .p) (a .pool .now) (a .descriptors .now) (a .out .now)) (l .area) (l .pool) (l .descriptors) (l .out) (l .cur) (l .rest) (l .left) (l .q) (l .inv),
-      stands-in (a .s .m) (f .result .step .line) (f .result .step .found) (f .last .1 .1 .0) (l .inv .settings .m .1) (f .ensures .step .holds),
+      (stands-in (a .s .m) (f .result .step .line) (f .result .step .found) (f .last .1 .1 .0) (l .inv .settings .m .1) (f .ensures .step .holds), b .pre .1 .1),
     )
 
 loop-less : tie.Need-loop-less Inv-loop μ-loop

@@ -16,17 +16,17 @@ use Rattle.units.proofs.closed_unit.Tie as tie
 
 -- the area has 279 octets, and the unit's whole octets are at most 278
 sized : (s : tie.Start) → length (now (s .args .area)) ≡ 279
-sized s = area-length (now (s .args .area)) (s .args .bits) (s .pre .1 .0) (s .pre .1 .1)
+sized s = area-length (now (s .args .area)) (s .args .bits) (s .pre .1 .0 .0) (s .pre .1 .0 .1)
 
 held : (s : tie.Start) → (s .args .bits / 8 ≤ 278) × (length (now (s .args .area)) ≡ 279)
-held s = (omega (arith, s .pre .1 .0), sized s)
+held s = (omega (arith, s .pre .1 .0 .0), sized s)
 
 -- the verdict on the unit, at an arm's variant
 judged : (v : tie.After-verdict) {x : Verdict} → v .verdict .result ≡ x → verdictOf basic (take (v .before .before .before .args .bits) (lineBits (now (v .before .before .before .args .area)))) ≡ x
 judged v e = sym (v .verdict .ensures) ∙ e
 
 verdict-requires : tie.Need-verdict-requires
-verdict-requires c κs = let s = c .before .before in (s .pre .1 .0, sized s)
+verdict-requires c κs = let s = c .before .before in ((s .pre .1 .0 .0, sized s), s .pre .1 .1)
 
 enum-told : tie.Need-enum-told
 enum-told c = search needs
@@ -58,7 +58,7 @@ good-unit-requires c κs =
     let m = c .before .before in
     let v = m .before .before in
     let s = v .before .before .before in
-    let long = good-octets (now (s .args .area)) (s .args .bits) (s .pre .1 .0) (s .pre .1 .1) (judged v (m .enum-told4 .given .1)) in
+    let long = good-octets (now (s .args .area)) (s .args .bits) (s .pre .1 .0 .0) (s .pre .1 .0 .1) (judged v (m .enum-told4 .given .1)) in
     (s .pre .0, (long, held s .0, sized s))
 
 returns : tie.Need-returns
@@ -67,7 +67,7 @@ returns c =
     let v = m .before .before in
     let s = v .before .before .before in
     let a = s .args in
-    closed-short (now (a .area)) (a .bits) (s .pre .1 .0) (s .pre .1 .1) (a .s) (unitMemory (a .units) (now (a .pool)) (now (a .descriptors)))
+    closed-short (now (a .area)) (a .bits) (s .pre .1 .0 .0) (s .pre .1 .0 .1) (a .s) (unitMemory (a .units) (now (a .pool)) (now (a .descriptors)))
     (judged v (m .enum-told .given .1)) (c .short-unit .ensures)
 
 same-length : tie.Need-same-length
@@ -84,7 +84,7 @@ returns-2 c =
     let s = v .before .before .before in
     let a = s .args in
     let o = unitMemory (a .units) (now (a .pool)) (now (a .descriptors)) in
-    rw (closed-not-whole (now (a .area)) (a .bits) (s .pre .1 .0) (s .pre .1 .1) (a .s) o (judged v (m .enum-told2 .given .1))) (n .errored-unit .ensures)
+    rw (closed-not-whole (now (a .area)) (a .bits) (s .pre .1 .0 .0) (s .pre .1 .0 .1) (a .s) o (judged v (m .enum-told2 .given .1))) (n .errored-unit .ensures)
 
 same-length-3 : tie.Need-same-length-3
 same-length-3 c = search needs
@@ -100,7 +100,7 @@ returns-3 c =
     let s = v .before .before .before in
     let a = s .args in
     let o = unitMemory (a .units) (now (a .pool)) (now (a .descriptors)) in
-    rw (closed-wrong (now (a .area)) (a .bits) (s .pre .1 .0) (s .pre .1 .1) (a .s) o (judged v (m .enum-told3 .given .1))) (n .errored-unit2 .ensures)
+    rw (closed-wrong (now (a .area)) (a .bits) (s .pre .1 .0 .0) (s .pre .1 .0 .1) (a .s) o (judged v (m .enum-told3 .given .1))) (n .errored-unit2 .ensures)
 
 same-length-5 : tie.Need-same-length-5
 same-length-5 c = search needs
@@ -116,7 +116,7 @@ returns-4 c =
     let s = v .before .before .before in
     let a = s .args in
     let o = unitMemory (a .units) (now (a .pool)) (now (a .descriptors)) in
-    rw (closed-good (now (a .area)) (a .bits) (s .pre .1 .0) (s .pre .1 .1) (a .s) o (judged v (m .enum-told4 .given .1))) (n .good-unit .ensures)
+    rw (closed-good (now (a .area)) (a .bits) (s .pre .1 .0 .0) (s .pre .1 .0 .1) (a .s) o (judged v (m .enum-told4 .given .1))) (n .good-unit .ensures)
 
 pub closed-unit-spec : {M : Type 1} → statement M
 closed-unit-spec =
