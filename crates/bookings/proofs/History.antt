@@ -29,7 +29,7 @@ use Rattle.link.specs.Commands.{commandOf, obeyed}
 use Rattle.calls.specs.Call.{Call, opens, receive, command, clear, send, fill, read, readsNumber, handBack, wipe, linkAfter}
 use Rattle.promises.specs.History.{Front, newFront, linkOfFront, numberOf, frontDone, brought}
 use Rattle.promises.proofs.Holding.{frontOf, by-last}
-use Rattle.readback.proofs.Closing.{by-bits}
+use Rattle.reception.proofs.Lines.{by-bits}
 use Rattle.readback.proofs.Handing.{foundIn, found-line}
 use Rattle.bookings.specs.Booking.{Booking, newBooking, inputsIn, inputOfCommand, bookingDone, Course, courseNext, courseAfter, bookingAfter}
 use Rattle.bookings.specs.History.{goodUnits, unitsOf, KindOrGood, shown, kindsShown, fatesTold, isOver, isDropped, isLost, howMany, round, fatesAfter, History, Histories}

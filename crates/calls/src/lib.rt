@@ -11,5 +11,6 @@ pub use link::commands::command;
 pub use link::slots::hand_back;
 pub use link::slots::read;
 pub use link::slots::read_number;
+pub use octet_input::receive_octets;
 pub use output::fill;
 pub use output::send;

@@ -13,7 +13,8 @@ use Rattle.framing.specs.Delimitation.{Receiver, Finding, closed, flagged, step
 use Rattle.sending.specs.Stuffing.{stuffed, flag, onLine, unitBits, unitLine}
 use Rattle.sending.proofs.Stuffs.{unit-bits}
 use Rattle.sending.proofs.ReadBack.{ClosesLast, closes-last}
-use Rattle.units.specs.Indications.{octetReceiver, lineReceiver}
+use Rattle.units.specs.Indications.{lineReceiver}
+use Rattle.reception.proofs.Lines.{by-bits}
 
 -- ---- a list cut in two places
 pub record Seam (a b c d : List Bool) : Type 0 where
@@ -29,12 +30,6 @@ pub seam : (a b c d : List Bool) → a ++ b ≡ c ++ d → length c ≤ length a
 seam a b [] d e h = record { between = a; front = refl; back = sym e }
 seam [] b (y ∷ c) d e h = absurd (omega arith)
 seam (x ∷ a) b (y ∷ c) d e h = cons-seam x y a b c d (cc) (seam a b c d (cc) (omega arith))
-
--- ---- the receiver of line octets is that of their bits
-pub by-bits : (M : ℕ) (octets : List ℕ) (s : Receiver) → lineReceiver M s octets ≡ receiverAfter M s (lineBits octets)
-unfolding lineReceiver lineBits
-by-bits M [] s = refl
-by-bits M (x ∷ octets) s = by-bits M octets (octetReceiver M s x) ∙ sym (run-append (next M) (bitsOf 8 x) (lineBits octets) s)
 
 -- ---- the last octet
 append-empty : (xs ys : List Finding) → xs ++ ys ≡ [] → ys ≡ []

@@ -40,7 +40,7 @@ use Rattle.readback.specs.Feeding.{board, Feed, answer, fed, wrote}
 use Rattle.readback.specs.SlotRing.{SlotRing, ringWith, ringAfter, ringRecords}
 use Rattle.readback.specs.Streams.{AllAllowed, closedOut, none as none-allowed, more as more-allowed}
 use Rattle.readback.specs.Rounds.{Round, roundDone, octetsOfRounds, Roomy, none, more, ringOf, HandsOver, StreamRounds}
-use Rattle.readback.proofs.Closing.{by-bits}
+use Rattle.reception.proofs.Lines.{by-bits}
 use Rattle.readback.proofs.Feeding.{can-receive, same-settings, board-fed, records-wrote}
 use Rattle.readback.proofs.Pieces.{stream-found, found as closings}
 use Rattle.readback.proofs.Handing.{foundIn, found-line, Free, Handed, handeds, all-handed, unsupervised, handed-records, handed-unsupervised, ringOf as ringOfUnits}

@@ -28,7 +28,8 @@ use Rattle.readback.specs.Promises.{aheadOf}
 use Rattle.readback.specs.SlotRing.{unitOctets}
 use Rattle.readback.specs.Streams.{AllAllowed, none, more, closedOut}
 use Rattle.readback.specs.Using.{InUse}
-use Rattle.readback.proofs.Closing.{by-bits, last-finds}
+use Rattle.reception.proofs.Lines.{by-bits}
+use Rattle.readback.proofs.Closing.{last-finds}
 use Rattle.readback.proofs.ReadBack.{Cut, stretch, parts-of}
 use Rattle.readback.proofs.Pieces.{stream-found}
 use Rattle.readback.proofs.Stream.{closed-allowed}

@@ -7,9 +7,10 @@ use lib.ListN.{length, take, getD, length-append}
 use lib.Seq.{length-take-le, take-suc, take-length}
 use Rattle.board.specs.InnerRanges.{SettingsInRange}
 use Rattle.board.specs.Limits.{recordOctets, recordRoom}
+use Rattle.bits.specs.Octets.{bitsOf, lineBits}
 use Rattle.bits.proofs.Machines.{run-append, outs-append}
 use Rattle.framing.specs.declared.Line.{Line}
-use Rattle.framing.specs.Delimitation.{Receiver}
+use Rattle.framing.specs.Delimitation.{Receiver, next, receiverAfter}
 use Rattle.framing.specs.Representation.{decode}
 use Rattle.framing.specs.InnerReading.{wellFormed}
 use Rattle.board.specs.declared.Settings.{Settings}
@@ -20,6 +21,12 @@ use Rattle.indications.specs.InnerWriting.{CallState, holding, indicationsDone,
 use Rattle.reception.specs.InnerWriting.{StateInRange, LineTaken}
 use Rattle.indications.proofs.Recording.{indications-none, indications-append}
 use Rattle.reception.proofs.Octets.{happenings-five, indications-length}
+
+-- the receiver of line octets is that of their bits
+pub by-bits : (M : ℕ) (octets : List ℕ) (st : Receiver) → lineReceiver M st octets ≡ receiverAfter M st (lineBits octets)
+unfolding lineReceiver lineBits
+by-bits M [] st = refl
+by-bits M (x ∷ octets) st = by-bits M octets (octetReceiver M st x) ∙ sym (run-append (next M) (bitsOf 8 x) (lineBits octets) st)
 
 pub receiver-append : (M : ℕ) (xs ys : List ℕ) (st : Receiver) → lineReceiver M st (xs ++ ys) ≡ lineReceiver M (lineReceiver M st xs) ys
 unfolding lineReceiver

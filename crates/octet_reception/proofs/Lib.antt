@@ -1,0 +1,3 @@
+-- The laws of the receiver's path by whole octets.
+pub mod Counter
+pub mod Plain

@@ -1,0 +1,2 @@
+-- The receiver's path by whole octets.
+pub mod Counter

@@ -1,0 +1,4 @@
+-- Delimitation by whole octets.
+pub mod Rows
+pub mod Plain
+pub mod InnerScan
