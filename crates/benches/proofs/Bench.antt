@@ -21,8 +21,8 @@ use Rattle.units.specs.Indications.{Indication, lineReceiver, lineIndications}
 use Rattle.units.specs.Units.{unitMemory}
 use Rattle.reception.specs.Line.{Board, boardAfter, lineHappenings, lineRecords}
 use Rattle.reception.proofs.Octets.{happenings-five}
-use Rattle.link.specs.declared.commands.CommandCode.{CommandCode}
-use Rattle.link.specs.declared.commands.CommandCode.the-variants.{MonitorOff, StartFailure, StartAlignment, MustHandOver, CountOctets, Unknown}
+use Rattle.link.specs.declared.CommandCode.{CommandCode}
+use Rattle.link.specs.declared.CommandCode.the-variants.{MonitorOff, StartFailure, StartAlignment, MustHandOver, CountOctets, Unknown}
 use Rattle.link.specs.Commands.{commandOf, isUnknown, obeyed}
 use Rattle.link.specs.Refusals.{first}
 use Rattle.link.specs.Held.{Held}

@@ -23,8 +23,8 @@ use Rattle.board.specs.declared.Link.{Link}
 use Rattle.board.specs.Link.{newUnits}
 use Rattle.units.specs.Indications.{Indication, lineIndications}
 use Rattle.units.specs.Units.{UnitMemory, unitMemory, counted, unitMemoryAfter, happenings}
-use Rattle.link.specs.declared.commands.CommandCode.{CommandCode}
-use Rattle.link.specs.declared.commands.CommandCode.the-variants.{MonitorOff, StartFailure, StartAlignment, MustHandOver, CountOctets, Unknown}
+use Rattle.link.specs.declared.CommandCode.{CommandCode}
+use Rattle.link.specs.declared.CommandCode.the-variants.{MonitorOff, StartFailure, StartAlignment, MustHandOver, CountOctets, Unknown}
 use Rattle.link.specs.Commands.{commandOf, obeyed}
 use Rattle.calls.specs.Call.{Call, opens, receive, command, clear, send, fill, read, readsNumber, handBack, wipe, linkAfter}
 use Rattle.promises.specs.History.{Front, newFront, linkOfFront, numberOf, frontDone, brought}

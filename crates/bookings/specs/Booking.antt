@@ -16,8 +16,8 @@ use Rattle.board.specs.declared.Settings.{Settings}
 use Rattle.records.specs.declared.Happening.{Happening}
 use Rattle.units.specs.Indications.{Indication, found, octetEnd, lineIndications}
 use Rattle.units.specs.Units.{UnitMemory, unitMemory, isFree, nextUnitMemory}
-use Rattle.link.specs.declared.commands.CommandCode.{CommandCode}
-use Rattle.link.specs.declared.commands.CommandCode.the-variants.{MonitorOff, StartFailure, StartAlignment, MustHandOver, CountOctets, Unknown}
+use Rattle.link.specs.declared.CommandCode.{CommandCode}
+use Rattle.link.specs.declared.CommandCode.the-variants.{MonitorOff, StartFailure, StartAlignment, MustHandOver, CountOctets, Unknown}
 use Rattle.link.specs.Commands.{commandOf}
 use Rattle.calls.specs.Call.{Call, opens, receive, command, clear, send, fill, read, readsNumber, handBack, wipe}
 use Rattle.promises.specs.History.{Front, newFront, numberOf, brought, frontNext}

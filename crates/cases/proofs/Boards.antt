@@ -10,7 +10,7 @@ use Rattle.board.specs.declared.Link.{Link}
 use Rattle.board.specs.Malformed.{inRange, malformed}
 use Rattle.board.specs.Rows.{rowOf, table, rowSettings}
 use Rattle.link.specs.declared.Answer.{Answer}
-use Rattle.link.specs.declared.commands.CommandCode.the-variants.{StartFailure}
+use Rattle.link.specs.declared.CommandCode.the-variants.{StartFailure}
 use Rattle.link.specs.Commands.{commandOf, obeyed}
 use Rattle.link.specs.Refusals.{first, commandNumber}
 use Rattle.link.specs.Calls.{openedLink, commandAnswer}

@@ -20,8 +20,8 @@ use Rattle.reception.proofs.Cutting.{records-size, three-each, sum-over-line}
 use Rattle.link.specs.Refusals.{commandNumber}
 use Rattle.link.specs.Tables.{rising}
 use Rattle.input.specs.Refusals.{receiveNumber}
-use Rattle.link.specs.declared.commands.CommandCode.{CommandCode}
-use Rattle.link.specs.declared.commands.CommandCode.the-variants.{MonitorOff, StartFailure, StartAlignment, MustHandOver, CountOctets, Unknown}
+use Rattle.link.specs.declared.CommandCode.{CommandCode}
+use Rattle.link.specs.declared.CommandCode.the-variants.{MonitorOff, StartFailure, StartAlignment, MustHandOver, CountOctets, Unknown}
 use Rattle.link.specs.Commands.{commandOf, obeyed}
 use Rattle.link.specs.Calls.{Outcome, openAnswer, commandAnswer}
 use Rattle.link.specs.declared.Answer.{Answer}

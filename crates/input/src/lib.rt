@@ -27,7 +27,7 @@ pub fn receive_number(
     ensures { λ r. ⌜ r ≡ receiveNumber link (now (octets .entry)) (now (pool .entry)) (now (descriptors .entry)) (now (records .entry)) ⌝ }
 {
     let malformed = wellformed::is_malformed(link);
-    let fits = link::booking::fits_memory(link.settings.k, pool, descriptors);
+    let fits = link::fits_memory(link.settings.k, pool, descriptors);
     // 48 octets for each line octet, asked without a product that could overflow
     let short = records.len() / Link::RECORDS < octets.len();
     let eight = link::refuse(short, 8, 0);

@@ -9,8 +9,8 @@ use Rattle.monitor.specs.Monitor.{started, stopped}
 use Rattle.filter.specs.Memory.{emptyMemory}
 use Rattle.board.specs.declared.Link.{Link}
 use Rattle.board.specs.With.{withMonitor, withMemory, withCounting}
-use Rattle.link.specs.declared.commands.CommandCode.{CommandCode}
-use Rattle.link.specs.declared.commands.CommandCode.the-variants.{MonitorOff, StartFailure, StartAlignment, MustHandOver, CountOctets, Unknown}
+use Rattle.link.specs.declared.CommandCode.{CommandCode}
+use Rattle.link.specs.declared.CommandCode.the-variants.{MonitorOff, StartFailure, StartAlignment, MustHandOver, CountOctets, Unknown}
 
 -- the command of a number
 unfoldable pub commandOf : ℕ → CommandCode

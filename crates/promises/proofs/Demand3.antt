@@ -20,8 +20,8 @@ use Rattle.board.specs.declared.events.Event.the-variants as bits
 use Rattle.link.proofs.Faults.{none}
 use Rattle.link.specs.Calls.{openedLink}
 use Rattle.link.specs.Commands.{commandOf, obeyed}
-use Rattle.link.specs.declared.commands.CommandCode.the-variants.{MonitorOff, StartFailure, StartAlignment, MustHandOver, CountOctets, Unknown}
-use Rattle.link.specs.declared.commands.CommandCode.{CommandCode}
+use Rattle.link.specs.declared.CommandCode.the-variants.{MonitorOff, StartFailure, StartAlignment, MustHandOver, CountOctets, Unknown}
+use Rattle.link.specs.declared.CommandCode.{CommandCode}
 use Rattle.output.specs.Output.{fillEvent}
 use Rattle.board.specs.Events.{eventBit}
 use Rattle.board.specs.declared.Settings.{Settings}

@@ -49,8 +49,8 @@ use Rattle.board.proofs.Ranges.{well-formed, not-malformed}
 use Rattle.records.specs.declared.Happening.{Happening}
 use Rattle.records.specs.Record.{supervised, supervisionAfter}
 use Rattle.records.proofs.Noting.{noted-event, noted-none}
-use Rattle.link.specs.declared.commands.CommandCode.{CommandCode}
-use Rattle.link.specs.declared.commands.CommandCode.the-variants.{MonitorOff, StartFailure, StartAlignment, MustHandOver, CountOctets, Unknown}
+use Rattle.link.specs.declared.CommandCode.{CommandCode}
+use Rattle.link.specs.declared.CommandCode.the-variants.{MonitorOff, StartFailure, StartAlignment, MustHandOver, CountOctets, Unknown}
 use Rattle.link.specs.Refusals.{first, fault, Fault}
 use Rattle.link.specs.Commands.{commandOf, obeyed}
 use Rattle.link.specs.Calls.{openedLink, Outcome, openAnswer, withoutBits}

@@ -18,8 +18,8 @@ use Rattle.board.specs.Link.{newSettings, newUnits, newSupervision, newTransmit
 use Rattle.records.specs.declared.Happening.{Happening}
 use Rattle.units.specs.Indications.{lineReceiver, lineIndications}
 use Rattle.units.specs.Units.{unitMemory, unitMemoryAfter, happenings}
-use Rattle.link.specs.declared.commands.CommandCode.{CommandCode}
-use Rattle.link.specs.declared.commands.CommandCode.the-variants.{MonitorOff, StartFailure, StartAlignment, MustHandOver, CountOctets, Unknown}
+use Rattle.link.specs.declared.CommandCode.{CommandCode}
+use Rattle.link.specs.declared.CommandCode.the-variants.{MonitorOff, StartFailure, StartAlignment, MustHandOver, CountOctets, Unknown}
 use Rattle.link.specs.Commands.{commandOf, obeyed}
 use Rattle.link.specs.Refusals.{first}
 use Rattle.link.specs.Calls.{openedLink}

@@ -1,0 +1,68 @@
+// Opening a booking, and the wipe between bookings.
+use board::Counting;
+use board::Link;
+use board::Settings;
+use board::wellformed;
+use link::Answer;
+ghost use mathlib.Core.Path.{_≡_};
+ghost use Rattle.link.specs.Refusals.{openNumber};
+ghost use Rattle.link.specs.Calls.{openedLink, openAnswer, wipeAnswer};
+
+// The number that open answers.
+fn open_number(link: Link, settings: Settings, pool: &[u8], descriptors: &[u16]) -> u8
+    ensures { λ r. ⌜ r ≡ openNumber link settings (now (pool .entry)) (now (descriptors .entry)) ⌝ }
+{
+    let malformed = wellformed::is_malformed(link);
+    let range = wellformed::in_range(settings);
+    let fits = link::fits_memory(settings.k, pool, descriptors);
+    let octets = memory::no_octet(pool);
+    let words = memory::no_word(descriptors);
+    let six = link::refuse(!(octets & words), 6, 0);
+    let five = link::refuse(!fits, 5, six);
+    let four = link::refuse(!range, 4, five);
+    let three = link::refuse(link.opened, 3, four);
+    link::refuse(malformed, 1, three)
+}
+
+// The link of a new booking.
+fn opened_link(settings: Settings) -> Link
+    ensures { λ r. ⌜ r ≡ openedLink settings ⌝ }
+{
+    let mut l = Link::new();
+    l.opened = true;
+    l.settings = settings;
+    let counting = Counting {
+        on: false,
+        left: settings.n,
+    };
+    let mut u = l.units;
+    u.counting = counting;
+    l.units = u;
+    l
+}
+
+// Opens a booking over memory that is wiped.
+pub fn open(link: Link, settings: Settings, pool: &mut [u8], descriptors: &mut [u16]) -> Answer
+    ensures { λ r. ⌜ record { number = r .number; link = r .link; pool = now (pool .exit); descriptors = now (descriptors .exit) } ≡ openAnswer link settings (now (pool .entry)) (now (descriptors .entry)) ⌝ }
+{
+    let n = open_number(link, settings, &*pool, &*descriptors);
+    if n != 0 {
+        return Answer {
+            number: n,
+            link: link,
+        };
+    }
+    let k = settings.k;
+    memory::mark_empty(descriptors, k);
+    let l = opened_link(settings);
+    Answer { number: 0, link: l }
+}
+
+// Zeroes all of both areas, whatever they are, and gives the new link. It is never refused.
+pub fn wipe(octets: &mut [u8], words: &mut [u16]) -> Link
+    ensures { λ r. ⌜ record { link = r; octets = now (octets .exit); words = now (words .exit) } ≡ wipeAnswer (now (octets .entry)) (now (words .entry)) ⌝ }
+{
+    memory::wipe_octets(octets);
+    memory::wipe_words(words);
+    Link::new()
+}
