@@ -6,7 +6,6 @@ use monitor::Monitor;
 pub mod events;
 pub mod limits;
 pub mod rows;
-pub mod wellformed;
 
 ghost use mathlib.Core.Path.{_≡_};
 ghost use Rattle.board.specs.Link.{newLink, newLine, clearArea, newSettings, newUnits, newSupervision, newTransmitter};

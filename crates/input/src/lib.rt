@@ -1,7 +1,6 @@
 // Input: receive, the call that takes line octets in.
 use board::Gathering;
 use board::Link;
-use board::wellformed;
 use indications::Progress;
 ghost use mathlib.Core.Path.{_≡_};
 ghost use Rattle.board.specs.With.{withReception};

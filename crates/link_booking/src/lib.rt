@@ -2,7 +2,6 @@
 use board::Counting;
 use board::Link;
 use board::Settings;
-use board::wellformed;
 use link::Answer;
 ghost use mathlib.Core.Path.{_≡_};
 ghost use Rattle.link.specs.Refusals.{openNumber};

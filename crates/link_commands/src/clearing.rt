@@ -1,6 +1,5 @@
 // Clearing event bits.
 use board::Link;
-use board::wellformed;
 use link::Answer;
 ghost use mathlib.Core.Path.{_≡_};
 ghost use Rattle.link.specs.Refusals.{clearNumber};

@@ -1,6 +1,5 @@
 // Commands: the monitors, the filter, octet counting.
 use board::Link;
-use board::wellformed;
 use filter::Memory;
 use link::Answer;
 use link::CommandCode;

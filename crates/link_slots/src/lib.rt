@@ -1,6 +1,5 @@
 // Reading a slot and handing it back.
 use board::Link;
-use board::wellformed;
 use link::Answer;
 ghost use mathlib.Core.Path.{_≡_};
 ghost use Rattle.link.specs.Refusals.{readNumber};

@@ -1,7 +1,6 @@
 // Output: send and fill, the calls that put units on the line.
 use board::Link;
 use board::Transmitter;
-use board::wellformed;
 use sending::Tx;
 ghost use mathlib.Core.Path.{_≡_};
 ghost use Rattle.sending.specs.InnerPutting.{Puts, TxInRange, Room};
