@@ -1,4 +1,4 @@
-// What the calls on one link share: the answer, the refusal's number, the sizes of the lent memory. specs/ says what each call answers.
+// What the calls on one link share: the answer, the commands, the refusal's number, the sizes of the lent memory. specs/ says what each call answers.
 use board::Link;
 ghost use mathlib.Core.Path.{_≡_};
 ghost use mathlib.Core.Bool.{cond};

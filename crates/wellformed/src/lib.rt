@@ -1,15 +1,13 @@
 // The tests for a malformed link and for settings out of range, which nearly every call makes first.
 use board::Counting;
-use board::Gathering;
 use board::Link;
 use board::Settings;
 use board::Transmitter;
-use filter::Memory;
 use framing::Line;
 use monitor::Mode;
 use monitor::Monitor;
 ghost use mathlib.Core.Path.{_≡_};
-ghost use mathlib.Core.Bool.{Bool, true, false, not, _&&_, _||_};
+ghost use mathlib.Core.Bool.{true, false, _&&_};
 ghost use lib.Dec.{eqb};
 ghost use lib.ListN.{drop};
 ghost use Rattle.bits.specs.Format.{basic};

@@ -1,4 +1,6 @@
 -- `link_commands::commands::obey` meets its contract, command by command.
+use mathlib.Core.Path.{ap, _∙_}
+use Rattle.board.specs.With.{withMonitor}
 use Rattle.link.specs.Commands.{obeyed}
 use borrow.Author.Needs.{needs}
 use Rattle.link_commands.proofs.commands.obey.Statement.{statement}
@@ -15,7 +17,9 @@ with-monitor-requires c κs = search needs
 
 returns : tie.Need-returns
 unfolding obeyed
-returns c = rw (c .before .before .before .enum-told .given .1, c .with-monitor .ensures, c .before .stop .ensures)
+returns c =
+    rw (c .before .before .before .enum-told .given .1)
+    (c .with-monitor .ensures ∙ ap (withMonitor (c .before .before .before .before .before .args .link)) (c .before .stop .ensures))
 
 enum-told-2 : tie.Need-enum-told-2
 enum-told-2 c = search needs
