@@ -1,10 +1,11 @@
-# `make test` sees that the line and the records for the check of units are those of the independent program, then proves and tests
-# everything; its last line is the verdict. `make demo` runs lineview on a sample line. `make bench` times the receiving engines beside
-# a bit-by-bit Rust program (docs/BENCHMARK.md).
+# `make test` sees that the line and the records for the check of units, and README's check by hand, are those of the independent program,
+# then proves and tests everything; its last line is the verdict. `make demo` runs lineview on a sample line. `make bench` times the
+# receiving engines and the check beside a bit-by-bit Rust program (docs/BENCHMARK.md).
 .PHONY: test demo bench
 
 test:
 	python3 tests/crc_units.py check
+	python3 tests/check_by_hand.py
 	rt ci
 
 demo:
@@ -14,5 +15,6 @@ demo:
 bench:
 	rt staticlib bench_receive
 	rt staticlib bench_octets
+	rt staticlib bench_check
 	cargo build --release --offline --locked --manifest-path bench/Cargo.toml --target-dir target/bench
 	target/bench/release/bench

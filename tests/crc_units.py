@@ -30,9 +30,9 @@ def octets_of(bits):
     return bytes(int(bits[at:at + 8][::-1], 2) for at in range(0, len(bits), 8))
 
 
-# The unit's first bit on the line has the highest power of x: bit n of the integer is the coefficient of x^n.
-def polynomial(octets):
-    return int(line_bits(octets), 2)
+# The first bit on the line has the highest power of x: bit n of the integer is the coefficient of x^n.
+def polynomial(bits):
+    return int(bits, 2)
 
 
 # Long division: while the dividend reaches the divisor's degree, its leading term is cancelled by the divisor moved up to it.
@@ -54,9 +54,8 @@ ONES = 0xFFFF
 
 # What is left of n bits: they are multiplied by x^16, and the preset adds sixteen ones to the leading sixteen bits of the product,
 # x^n (x^15 + .. + 1). The answer is sixteen bits, the highest power first, as they stand on the line.
-def left_over(octets, generator, preset):
-    n = 8 * len(octets)
-    dividend = polynomial(octets) << 16 ^ preset << n
+def left_over(bits, generator, preset):
+    dividend = polynomial(bits) << 16 ^ preset << len(bits)
     return format(remainder(dividend, generator), "016b")
 
 
@@ -65,13 +64,17 @@ def complement(bits):
 
 
 def check_octets(content, generator=GENERATOR, preset=ONES):
-    return octets_of(complement(left_over(content, generator, preset)))
+    return octets_of(complement(left_over(line_bits(content), generator, preset)))
 
 
-# The receiver's rule and the sender's, which must agree. The first bit on the line is the lowest of the number F0B8.
+# What is left as a number, as in F0B8: the first bit on the line is the lowest.
+def register(bits, preset=ONES):
+    return int(left_over(bits, GENERATOR, preset)[::-1], 2)
+
+
+# The receiver's rule and the sender's, which must agree.
 def is_right(unit):
-    leaves = int(left_over(unit, GENERATOR, ONES)[::-1], 2)
-    right = leaves == 0xF0B8
+    right = register(line_bits(unit)) == 0xF0B8
     assert right == (unit[-2:] == check_octets(unit[:-2]))
     return right
 
@@ -117,7 +120,7 @@ def check_octets_swapped(c, draw):
 
 
 def complement_missing(c, draw):
-    return c + octets_of(left_over(c, GENERATOR, ONES))
+    return c + octets_of(left_over(line_bits(c), GENERATOR, ONES))
 
 
 def preset_missing(c, draw):
@@ -255,4 +258,5 @@ def main(words):
     )
 
 
-main(sys.argv[1:])
+if __name__ == "__main__":
+    main(sys.argv[1:])

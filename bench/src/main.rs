@@ -1,5 +1,7 @@
-//! Times the engines on the same lines: nanoseconds for each line octet. Before that it sees that they all give the same.
+//! Times the engines on the same lines: nanoseconds for each line octet. Before that it sees that they all give the same. Then the check of
+//! a content likewise.
 mod board;
+mod check;
 mod job;
 mod lines;
 mod receiver;
@@ -39,6 +41,7 @@ const MOST_COMPARED: usize = 1 << 14;
 fn main() {
     let lines = lines::lines(OCTETS, SEED);
     compare_all(&lines);
+    check::compare(SEED);
     println!("Nanoseconds for each line octet: {OCTETS} octets in {PARTS} parts, of each part the minimum of {SWEEPS} sweeps.");
     println!("Rust is the bit-by-bit program of bench/. A / B says how many times as fast B is as A.");
     println!("Pool and descriptors were cleared before each run, outside the time; the record area was not.");
@@ -60,6 +63,8 @@ fn main() {
     for (engine, most) in ENGINES.iter().zip(growth) {
         println!("{}: a call of 1,024 octets costs at most {most:.1} times a call of 64.", engine.name);
     }
+    println!();
+    check::print_times(SEED);
 }
 
 /// Sees that the engines give the same on every line: with each setting of the switches, in parts and cuttings of random lengths.

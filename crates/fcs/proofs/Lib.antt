@@ -3,5 +3,7 @@ pub mod Xor
 pub mod Linear
 pub mod Residue
 pub mod Rest
+pub mod Tables
+pub mod HalfOctets
 pub mod Octetwise
 pub mod Fours

@@ -3,18 +3,19 @@ use mathlib.Core.Path.{_≡_, refl, sym, ap, ap₂, _∙_}
 use mathlib.Core.Bool.{Bool, true, false}
 use mathlib.Core.List.{List, [], _∷_}
 use Prim.Native.Nat.{ℕ, zero, suc, _+_, _/_, _%_, _^_, _<_}
-use native.Mathlib.Nat.{div-one}
+use native.Mathlib.Nat.{div-one, mod-lt, mod-mod, div-eq-of-lt}
 use native.Mathlib.Numerals.{one-add}
 use native.Mathlib.Omega.{arith}
 use lib.Dec.{eqb}
-use lib.ListN.{length, replicate, replicate-append-replicate}
-use lib.Pow.{shr-shr}
-use lib.Bits.{bitXor, differ, xor-comm, xor-lt}
+use lib.ListN.{length, replicate, length-replicate, replicate-append-replicate}
+use lib.Pow.{pow-pos, shr-shr}
+use lib.Bits.{bitXor, differ, xor-comm, xor-lt, xor-zero-r, xor-mod, xor-shr}
 use Rattle.bits.specs.Octets.{odd, bitsOf}
 use Rattle.bits.proofs.Machines.{run-append}
+use Rattle.bits.proofs.Digits.{bits-low}
 use Rattle.fcs.specs.Check.{generator, differs, added, checkBit, checkBits}
 use Rattle.fcs.specs.Table.{zeros}
-use Rattle.fcs.proofs.Xor.{xor-low, xor-half, xor-assoc, twice-left}
+use Rattle.fcs.proofs.Xor.{xor-low, xor-half, xor-assoc, twice-left, twice-right}
 
 -- x's bits, lowest first, each turned where bs has a one
 abbrev pub mixed : ℕ → List Bool → List Bool
@@ -87,6 +88,45 @@ zeros-xor (suc n) x y = ap (zeros n) (zero-xor x y) ∙ zeros-xor n (checkBit x 
 pub zeros-add : (m n r : ℕ) → zeros (m + n) r ≡ zeros n (zeros m r)
 zeros-add m n r =
     sym (ap (checkBits r) (replicate-append-replicate m n false)) ∙ run-append checkBit (replicate m false) (replicate n false) r
+
+-- ---- k bits at once. A register r in two parts: y, its k low bits turned where the value has ones, takes zero bits; the rest, x, has the value's bits lowest, and moves down
+no-bits : (k : ℕ) → bitsOf k 0 ≡ replicate k false
+unfolding bitsOf
+no-bits zero = refl
+no-bits (suc k) = ap {B = List Bool} (λ bs. false ∷ bs) (no-bits k)
+
+module _ (k r value : ℕ) where
+  abbrev y : ℕ
+  y = bitXor r value % 2 ^ k
+
+  abbrev x : ℕ
+  x = bitXor r y
+
+  low : x % 2 ^ k ≡ value % 2 ^ k
+  low =
+      xor-mod r y k
+      ∙ ap (bitXor (r % 2 ^ k)) (mod-mod (bitXor r value) (2 ^ k) ∙ xor-mod r value k)
+      ∙ twice-left (r % 2 ^ k) (value % 2 ^ k)
+
+  high : x / 2 ^ k ≡ r / 2 ^ k
+  high = xor-shr r y k ∙ ap (bitXor (r / 2 ^ k)) (div-eq-of-lt (mod-lt (bitXor r value) (pow-pos k))) ∙ xor-zero-r (r / 2 ^ k)
+
+  fed : bitsOf k value ≡ mixed x (replicate k false)
+  fed =
+      sym (bits-low k value)
+      ∙ ap (bitsOf k) (sym low)
+      ∙ bits-low k x
+      ∙ ap (bitsOf k) (sym (xor-zero-r x))
+      ∙ bits-xor k x 0
+      ∙ ap (mixed x) (no-bits k)
+
+-- k bits of a value: the register moves down by k, and what k zero bits make of y is added
+pub block-zeros : (k r value : ℕ) → checkBits r (bitsOf k value) ≡ bitXor (r / 2 ^ k) (zeros k (bitXor r value % 2 ^ k))
+block-zeros k r value =
+    ap₂ checkBits (sym (twice-right r (y k r value))) (fed k r value)
+    ∙ bits-linear (replicate k false) (x k r value) (y k r value)
+    ∙ ap (λ (n : ℕ). bitXor n (zeros k (y k r value)))
+    (ap (λ (n : ℕ). x k r value / 2 ^ n) (length-replicate k false) ∙ high k r value)
 
 -- the register stays within sixteen bits
 added-lt : (f : Bool) (r : ℕ) → r < 2 ^ 16 → added f r < 2 ^ 16

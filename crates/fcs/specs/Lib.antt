@@ -1,4 +1,5 @@
 -- The frame check sequence.
 pub mod Check
+pub mod HalfOctets
 pub mod Table
 pub mod Promises

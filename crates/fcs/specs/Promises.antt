@@ -1,16 +1,26 @@
--- What is promised of the check. The proofs are in proofs/Residue.antt, proofs/Octetwise.antt and proofs/Fours.antt.
+-- What is promised of the check. The proofs are in proofs/Residue.antt, proofs/HalfOctets.antt, proofs/Octetwise.antt and proofs/Fours.antt.
 use mathlib.Core.Path.{_≡_}
 use mathlib.Core.List.{List, [], _∷_, _++_}
 use Prim.Native.Nat.{ℕ, _+_, _/_, _%_, _<_}
 use lib.Bits.{bitXor}
 use lib.ListN.{getD}
 use Rattle.bits.specs.Octets.{bitsOf, lineBits}
+use Rattle.bits.specs.Machine.{run}
 use Rattle.fcs.specs.Check.{checkBits, checkOf, goodResidue, checkOctets}
+use Rattle.fcs.specs.HalfOctets.{checkHalf, halfOctets}
 use Rattle.fcs.specs.Table.{checkTable}
 
 -- For every content, content followed by its check octets leaves F0B8.
 abbrev pub GoodResidue : Type 0
 GoodResidue = (content : List ℕ) → checkOf (content ++ checkOctets content) ≡ goodResidue
+
+-- "for every check register and half octet, this step equals four steps of the bit rule"
+abbrev pub HalfOctetStep : Type 0
+HalfOctetStep = (register half : ℕ) → checkHalf register half ≡ checkBits register (bitsOf 4 half)
+
+-- So the register after octets is that after their half octets.
+abbrev pub CheckByHalves : Type 0
+CheckByHalves = (octets : List ℕ) → run checkHalf 0xffff (halfOctets octets) ≡ checkOf octets
 
 -- An octet's eight bits at once: the register moves down by eight, and the word at its low octet, turned where the octet has ones, is added.
 abbrev pub OctetByTable : Type 0

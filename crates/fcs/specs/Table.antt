@@ -9,11 +9,11 @@ use Rattle.fcs.specs.Check.{checkBits}
 abbrev pub zeros : ℕ → ℕ → ℕ
 zeros n r = checkBits r (replicate n false)
 
--- n words, the first that at i
-unfoldable pub tableFrom : ℕ → ℕ → List ℕ
-tableFrom i zero = []
-tableFrom i (suc n) = zeros (8 * (i / 256 + 1)) (i % 256) ∷ tableFrom (suc i) n
+-- n words of a table by its rule, the first that at i
+unfoldable pub tableFrom : (ℕ → ℕ) → ℕ → ℕ → List ℕ
+tableFrom rule i zero = []
+tableFrom rule i (suc n) = rule i ∷ tableFrom rule (suc i) n
 
 -- 1,024 words: that at 256 * j + k, with k below 256, is the register after 8 * (j + 1) zero bits from k
 unfoldable pub checkTable : List ℕ
-checkTable = tableFrom 0 1024
+checkTable = tableFrom (λ i. zeros (8 * (i / 256 + 1)) (i % 256)) 0 1024

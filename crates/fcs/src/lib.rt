@@ -1,47 +1,20 @@
 // The frame check sequence: CRC-CCITT over octets, and the two check octets that a unit ends in.
 ghost use mathlib.Core.Path.{_≡_};
-ghost use Prim.Native.Nat.{_<_};
-ghost use Rattle.bits.specs.Octets.{bitsOf};
-ghost use Rattle.fcs.specs.Check.{checkBit, checkBits, checkOf, checkOctets};
+ghost use Rattle.fcs.specs.Check.{checkOf, checkOctets};
 ghost use Rattle.fcs.specs.Table.{checkTable};
 
+mod half_octets;
 mod table;
-
-// One bit into the check register.
-fn check_bit(register: u16, bit: bool) -> u16
-    ensures { λ r. ⌜ r ≡ checkBit register bit ⌝ }
-{
-    let low = register % 2 == 1;
-    if low != bit {
-        (register >> 1) ^ 0x8408
-    } else {
-        register >> 1
-    }
-}
-
-// The eight bits of an octet, lowest first.
-fn check_octet(register: u16, octet: u8) -> u16
-    ensures { λ r. ⌜ r ≡ checkBits register (bitsOf 8 octet) ⌝ }
-{
-    let mut reg = register;
-    let mut rest = octet;
-    let mut left: u8 = 8;
-    while left > 0 {
-        reg = check_bit(reg, rest % 2 == 1);
-        rest = rest / 2;
-        left -= 1;
-    }
-    reg
-}
 
 // The register after a run of octets, from the preset.
 pub fn check(octets: &[u8]) -> u16
     ensures { λ r. ⌜ r ≡ checkOf (now (octets .entry)) ⌝ }
 {
+    let table = half_octets::all_constants();
     let mut reg: u16 = 0xffff;
     let mut i: usize = 0;
     while i < octets.len() {
-        reg = check_octet(reg, octets[i]);
+        reg = half_octets::check_octet(reg, octets[i], &table);
         i += 1;
     }
     reg

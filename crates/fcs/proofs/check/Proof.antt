@@ -8,19 +8,22 @@ use Rattle.fcs.proofs.check.Statement.{statement}
 use Rattle.fcs.proofs.check.Tie as tie
 
 abbrev Inv-loop : tie.InvT-loop
-Inv-loop octets reg₀ i₀ reg i = Rest octets reg i
+Inv-loop octets table reg₀ i₀ reg i = Rest octets reg i
 
 abbrev μ-loop : tie.MeasureT-loop
-μ-loop octets reg₀ i₀ reg i = length octets - i
+μ-loop octets table reg₀ i₀ reg i = length octets - i
+
+all-constants-requires : tie.Need-all-constants-requires Inv-loop μ-loop
+all-constants-requires c κs = search needs
 
 loop-holds : tie.Need-loop-holds Inv-loop μ-loop
-loop-holds c = start (c .before .args .octets .now)
+loop-holds c = start (c .before .before .args .octets .now)
 
 shared-slice-read-check-octet : tie.Need-shared-slice-read-check-octet Inv-loop μ-loop
 shared-slice-read-check-octet c = omega arith
 
 check-octet-requires : tie.Need-check-octet-requires Inv-loop μ-loop
-check-octet-requires c κs = search needs
+check-octet-requires c κs = c .before .before .before .before .all-constants .ensures
 
 add-i : tie.Need-add-i Inv-loop μ-loop
 add-i c = omega arith
@@ -30,14 +33,14 @@ loop-less c = omega arith
 
 loop-again : tie.Need-loop-again Inv-loop μ-loop
 loop-again c =
-    let l = c .before .before .before .loop in
-    let s = c .before .before .before .before .before .args .octets .now in
-    next s (l .reg) (l .i) (c .check-octet .result) (c .before .before .loop-test .taken) (c .check-octet .ensures) (l .inv)
+    let l = c .before .before .before .before .loop in
+    let s = c .before .before .before .before .before .before .before .args .octets .now in
+    next s (l .reg) (l .i) (c .check-octet .result) (c .before .before .before .loop-test .taken) (c .check-octet .ensures) (l .inv)
 
 returns : tie.Need-returns Inv-loop μ-loop
 returns c =
     let l = c .before .loop in
-    done (c .before .before .before .args .octets .now) (l .reg) (l .i) (omega arith) (l .inv)
+    done (c .before .before .before .before .args .octets .now) (l .reg) (l .i) (omega arith) (l .inv)
 
 pub check-spec : {M : Type 1} → statement M
 check-spec =
@@ -45,6 +48,7 @@ check-spec =
     (tie.spec
     Inv-loop
     μ-loop
+    all-constants-requires
     loop-holds
     shared-slice-read-check-octet
     check-octet-requires
