@@ -25,26 +25,26 @@ const CONSTANTS: [u16; 16] = [
 ];
 
 // The constants, to be lent to the steps: made once for a run of octets.
-pub fn all_constants() -> [u16; 16]
+pub fn sixteen_constants() -> [u16; 16]
     ensures { λ r. ⌜ r ≡ constants ⌝ }
 {
     CONSTANTS
 }
 
 // Half an octet, the low four bits of `half`: the register moves down by four bits, and one constant is added.
-fn check_half(register: u16, half: u8, table: &[u16; 16]) -> u16
-    requires { ⌜ now table ≡ constants ⌝ }
+fn check_half(register: u16, half: u8, sixteen: &[u16; 16]) -> u16
+    requires { ⌜ now sixteen ≡ constants ⌝ }
     ensures { λ r. ⌜ r ≡ checkBits register (bitsOf 4 half) ⌝ }
 {
     let at = (register ^ half as u16) % 16;
-    (register / 16) ^ table[at as usize]
+    (register / 16) ^ sixteen[at as usize]
 }
 
 // The two halves of an octet, the low one first.
-pub fn check_octet(register: u16, octet: u8, table: &[u16; 16]) -> u16
-    requires { ⌜ now table ≡ constants ⌝ }
+pub fn check_octet(register: u16, octet: u8, sixteen: &[u16; 16]) -> u16
+    requires { ⌜ now sixteen ≡ constants ⌝ }
     ensures { λ r. ⌜ r ≡ checkBits register (bitsOf 8 octet) ⌝ }
 {
-    let low = check_half(register, octet % 16, table);
-    check_half(low, octet / 16, table)
+    let low = check_half(register, octet % 16, sixteen);
+    check_half(low, octet / 16, sixteen)
 }

@@ -6,15 +6,15 @@ ghost use Rattle.fcs.specs.Table.{checkTable};
 mod half_octets;
 mod table;
 
-// The register after a run of octets, from the preset.
+// The register after a run of octets, from the preset: half an octet at a time.
 pub fn check(octets: &[u8]) -> u16
     ensures { λ r. ⌜ r ≡ checkOf (now (octets .entry)) ⌝ }
 {
-    let table = half_octets::all_constants();
+    let sixteen = half_octets::sixteen_constants();
     let mut reg: u16 = 0xffff;
     let mut i: usize = 0;
     while i < octets.len() {
-        reg = half_octets::check_octet(reg, octets[i], &table);
+        reg = half_octets::check_octet(reg, octets[i], &sixteen);
         i += 1;
     }
     reg

@@ -8,13 +8,13 @@ use Rattle.fcs.proofs.check.Statement.{statement}
 use Rattle.fcs.proofs.check.Tie as tie
 
 abbrev Inv-loop : tie.InvT-loop
-Inv-loop octets table reg₀ i₀ reg i = Rest octets reg i
+Inv-loop octets sixteen reg₀ i₀ reg i = Rest octets reg i
 
 abbrev μ-loop : tie.MeasureT-loop
-μ-loop octets table reg₀ i₀ reg i = length octets - i
+μ-loop octets sixteen reg₀ i₀ reg i = length octets - i
 
-all-constants-requires : tie.Need-all-constants-requires Inv-loop μ-loop
-all-constants-requires c κs = search needs
+sixteen-constants-requires : tie.Need-sixteen-constants-requires Inv-loop μ-loop
+sixteen-constants-requires c κs = search needs
 
 loop-holds : tie.Need-loop-holds Inv-loop μ-loop
 loop-holds c = start (c .before .before .args .octets .now)
@@ -23,7 +23,7 @@ shared-slice-read-check-octet : tie.Need-shared-slice-read-check-octet Inv-loop 
 shared-slice-read-check-octet c = omega arith
 
 check-octet-requires : tie.Need-check-octet-requires Inv-loop μ-loop
-check-octet-requires c κs = c .before .before .before .before .all-constants .ensures
+check-octet-requires c κs = c .before .before .before .before .sixteen-constants .ensures
 
 add-i : tie.Need-add-i Inv-loop μ-loop
 add-i c = omega arith
@@ -48,7 +48,7 @@ check-spec =
     (tie.spec
     Inv-loop
     μ-loop
-    all-constants-requires
+    sixteen-constants-requires
     loop-holds
     shared-slice-read-check-octet
     check-octet-requires
