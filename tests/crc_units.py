@@ -1,21 +1,23 @@
 #!/usr/bin/env python3
 """The check of units, with a program that shares nothing with the project.
 
-It makes a line of 2,000 units, about half with right check octets, and the records that the program lineview must write for it.
+For the receiving side it makes a line of 2,000 units, about half with right check octets, and the records that the program lineview must
+write for it. For the sending side it makes 600 octets, and the check octets of each beginning of them.
 The check is long division of polynomials over GF(2), each a Python integer: no register that is shifted, and no table.
 
-    python3 tests/crc_units.py write    writes the line and the records: crates/lineview_crc/stdin and stdout
-    python3 tests/crc_units.py check    fails unless these two files are exactly what it makes
+    python3 tests/crc_units.py write    writes stdin and stdout of the crates lineview_crc and check_prefixes
+    python3 tests/crc_units.py check    fails unless these four files are exactly what it makes
 
-That the compiled program turns the one into the other is compared, octet by octet, whenever the crate lineview_crc is checked.
+That each compiled program turns its stdin into its stdout is compared, octet by octet, whenever its crate is checked.
 The rules quoted are those of the product's scope.
 """
 
 import sys
 from pathlib import Path
 
-CRATE = Path(__file__).resolve().parent.parent / "crates" / "lineview_crc"
+CRATES = Path(__file__).resolve().parent.parent / "crates"
 UNITS = 2000
+PREFIXES = 600
 SEED = 703
 
 
@@ -236,7 +238,21 @@ def records_of(all_units):
     return b"".join(records)
 
 
-# ---- the two files
+# ---- check octets to send
+
+# Contents of every kind, one behind the other.
+def octets_to_check(draw):
+    octets = b""
+    while len(octets) < PREFIXES:
+        octets += content(draw)
+    return octets[:PREFIXES]
+
+
+def checks_of_prefixes(octets):
+    return b"".join(check_octets(octets[:length]) for length in range(1, len(octets) + 1))
+
+
+# ---- the four files
 
 def main(words):
     if words not in (["write"], ["check"]):
@@ -244,17 +260,23 @@ def main(words):
     # the catalogues' value for this check: 906E of the nine digits
     assert check_octets(b"123456789") == bytes([0x6E, 0x90])
     all_units = list(units(Draw(SEED)))
-    files = {"stdin": line_of(all_units), "stdout": records_of(all_units)}
+    octets = octets_to_check(Draw(SEED + 1))
+    files = {
+        "lineview_crc/stdin": line_of(all_units),
+        "lineview_crc/stdout": records_of(all_units),
+        "check_prefixes/stdin": octets,
+        "check_prefixes/stdout": checks_of_prefixes(octets),
+    }
     for name, made in files.items():
-        path = CRATE / name
+        path = CRATES / name
         if words == ["write"]:
             path.write_bytes(made)
         elif not path.is_file() or path.read_bytes() != made:
-            sys.exit(f"crc_units: crates/lineview_crc/{name} is not what this program makes; its `write` makes it anew")
+            sys.exit(f"crc_units: crates/{name} is not what this program makes; its `write` makes it anew")
     right = sum(is_right(unit) for unit in all_units)
     print(
-        f"crc_units: {UNITS} units, {right} right, {UNITS - right} wrong:"
-        " the line and the records of crates/lineview_crc are what this program makes"
+        f"crc_units: {UNITS} units, {right} right, {UNITS - right} wrong, and the check octets of {PREFIXES} contents:"
+        " stdin and stdout of crates/lineview_crc and crates/check_prefixes are what this program makes"
     )
 
 
