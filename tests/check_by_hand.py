@@ -31,12 +31,21 @@ def rows():
         yield f"    {half:x}           {before:04x}       {n:x}   {before >> HALF:04x}    {constants()[n]:04x}       {after:04x}"
 
 
+# The check octets, and what is left of the whole unit.
+def last_sentences():
+    last, check = register(line_bits(CONTENT)), check_octets(CONTENT)
+    return (
+        f"The complement of `{last:04x}` is `{last ^ 0xFFFF:04x}`; low octet first the check octets are `{check.hex(' ')}`. "
+        f"Four steps more, with these two octets, leave `{register(line_bits(CONTENT + check)):04x}`: a good unit."
+    )
+
+
 def main():
     heading = "    half octet  register   n   moved   constant   register after"
     blocks = {
         "constants": "    " + " ".join(f"{constant:04x}" for constant in constants()),
         "example": "\n".join([heading, *rows()]),
-        "check octets": f"the check octets are `{check_octets(CONTENT).hex(' ')}`",
+        "check octets": last_sentences(),
     }
     text = README.read_text()
     for name, block in blocks.items():

@@ -2,13 +2,12 @@
 //! bit-by-bit one of the Rust program.
 use crate::lines::Random;
 use crate::receiver::check;
+use crate::{OCTETS, SWEEPS};
 use std::hint::black_box;
 use std::time::{Duration, Instant};
 
 /// Octets of a content: those of a fill-in unit, some, and the most.
 const CONTENTS: [usize; 3] = [3, 62, 276];
-const OCTETS: usize = 1 << 20;
-const SWEEPS: usize = 7;
 
 fn proved_check(content: &[u8]) -> u16 {
     extern "C" {
@@ -28,7 +27,10 @@ pub fn compare(seed: u64) {
             assert_eq!(proved_check(content), check(content), "the check of {content:02x?}");
         }
     }
-    println!("{} contents compared: the check by half octets and the Rust program's give the same.", places.len() * (CONTENTS[2] + 1));
+    println!(
+        "{} contents compared: the check by half octets and the Rust program's give the same.",
+        places.len() * (CONTENTS[2] + 1)
+    );
 }
 
 /// Nanoseconds for each octet of a content.
