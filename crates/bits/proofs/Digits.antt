@@ -104,11 +104,6 @@ octetOf-snoc (x ∷ g) false = omega (arith, octetOf-snoc g false)
 pub snoc-length : (g : List Bool) (b : Bool) → length (g ++ (b ∷ [])) ≡ length g + 1
 snoc-length g b = length-append g (b ∷ [])
 
--- a number of n bits with one bit more above is a number of n + 1 bits
-pub grown-lt : (v n : ℕ) (b : Bool) → v < 2 ^ n → v + worth b * 2 ^ n < 2 ^ (n + 1)
-grown-lt v n true h = omega (arith, pow-suc 2 n, ap (λ (k : ℕ). 2 ^ k) (add-one n))
-grown-lt v n false h = omega (arith, pow-suc 2 n, ap (λ (k : ℕ). 2 ^ k) (add-one n))
-
 -- the code's `1 << j` of an octet
 pub shift-one : (j : ℕ) → j < 8 → (1 * 2 ^ j) % 256 ≡ 2 ^ j
 shift-one j h =

@@ -8,3 +8,4 @@ pub mod Writing
 pub mod Typed
 pub mod Machines
 pub mod Tests
+pub mod Joined

@@ -11,46 +11,8 @@ use lib.Pow.{pow-mono, shl-lt, shl-exact}
 use Rattle.bits.specs.Octets.{octetOf, packed, wholeOctets, bitsAfter}
 use Rattle.bits.proofs.Digits.{octetOf-lt}
 use Rattle.bits.proofs.Packing.{packed-add, packed-nil}
+use Rattle.bits.proofs.Joined.{octetOf-append, past-eight, whole-one, after-one}
 use Rattle.bits.proofs.Whole.{length-whole, length-after, whole-few, after-few, whole-append, after-append}
-
--- the number of bits in two parts
-octetOf-append : (g h : List Bool) → octetOf (g ++ h) ≡ octetOf g + octetOf h * 2 ^ length g
-unfolding octetOf
-octetOf-append [] h = omega arith
-octetOf-append (x ∷ g) h =
-    let e : octetOf h * 2 ^ suc (length g) ≡ octetOf h * 2 ^ length g * 2 = ap (λ (k : ℕ). octetOf h * k) (pow-suc 2 (length g)) ∙ sym (mul-assoc (octetOf h) (2 ^ length g) 2) in
-    omega (arith, octetOf-append g h)
-
--- of eight bits and more: the lowest eight, and the rest
-module _ (j : List Bool) (h : 8 ≤ length j) where
-  eight-and-more : octetOf j ≡ octetOf (take 8 j) + octetOf (drop 8 j) * 256
-  eight-and-more =
-      ap octetOf (sym (take-append-drop 8 j)) ∙ octetOf-append (take 8 j) (drop 8 j)
-      ∙ ap (λ (k : ℕ). octetOf (take 8 j) + octetOf (drop 8 j) * 2 ^ k) (length-take-le 8 j h)
-
-  eight-small : octetOf (take 8 j) < 256
-  eight-small =
-      let p : 2 ^ length (take 8 j) ≡ 256 = ap (λ (k : ℕ). 2 ^ k) (length-take-le 8 j h) in
-      omega (arith, octetOf-lt (take 8 j))
-
-  low-eight : octetOf j % 256 ≡ octetOf (take 8 j)
-  low-eight = omega (arith, eight-and-more, eight-small)
-
-  past-eight : octetOf j / 256 ≡ octetOf (drop 8 j)
-  past-eight = omega (arith, eight-and-more, eight-small)
-
--- eight bits and up to seven more: one whole octet, and the bits after it
-module _ (j : List Bool) (h : 8 ≤ length j) (k : length j < 16) where
-  one : length j / 8 ≡ 1
-  one = omega arith
-
-  whole-one : wholeOctets j ≡ octetOf (take 8 j) ∷ []
-  unfolding wholeOctets packed
-  whole-one = ap (λ (i : ℕ). packed i j) one
-
-  after-one : bitsAfter j ≡ drop 8 j
-  unfolding bitsAfter
-  after-one = ap (λ (i : ℕ). drop (i * 8) j) one
 
 -- an area of bits: whole octets, the octet that is not full, and zeros
 packed-parts : (k m : ℕ) (g : List Bool) → k ≡ length g / 8 + suc m → packed k g ≡ wholeOctets g ++ (octetOf (bitsAfter g) ∷ replicate m 0)
@@ -156,8 +118,8 @@ module _ (area : List ℕ) (n have wait : ℕ) (g : List Bool) (J : Joining area
       below-sixteen : length (bitsAfter g ++ ks) < 16
       below-sixteen = omega (arith, length-j, J .part)
 
-      full : octetOf (take 8 (bitsAfter g ++ ks)) ≡ joined % 256
-      full = sym (ap (λ (x : ℕ). x % 256) number ∙ low-eight (bitsAfter g ++ ks) eight)
+      full : octetOf (bitsAfter g ++ ks) % 256 ≡ joined % 256
+      full = sym (ap (λ (x : ℕ). x % 256) number)
 
       whole-more : wholeOctets (g ++ ks) ≡ wholeOctets g ++ (joined % 256 ∷ [])
       whole-more =

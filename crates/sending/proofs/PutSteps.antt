@@ -1,14 +1,13 @@
 -- A run of writes: where it is, and that what is left to put from there gives the whole.
 use Prim.Native.Nat.{ℕ, _+_, _≤_}
 use mathlib.Core.Path.{_≡_, refl, sym, ap, subst, _∙_}
-use mathlib.Core.Bool.{Bool, true, false}
-use mathlib.Core.List.{List, [], _∷_, _++_}
+use mathlib.Core.Bool.{Bool}
+use mathlib.Core.List.{List, [], _++_}
 use native.Mathlib.Omega.{arith}
 use lib.ListN.{length, length-append}
 use lib.Seq.{length-sets}
-use borrow.Author.Tests.{eq-eqb, ne-eqb}
 use Rattle.sending.specs.declared.Tx.{Tx}
-use Rattle.sending.specs.Stuffing.{onesAfter, zeroAfter, stuffed, onesOver}
+use Rattle.sending.specs.Stuffing.{stuffed, onesOver}
 use Rattle.sending.specs.Packing.{octetsOut}
 use Rattle.sending.specs.InnerPutting.{afterBits, areaPut, Puts, TxInRange, Room}
 use Rattle.sending.proofs.Stuffs.{stuffed-append, ones-append, over-le}
@@ -84,49 +83,6 @@ module _ (out₀ : List ℕ) (t : Tx) (all : List Bool) (out : List ℕ) (s : Tx
       subst (λ (n : ℕ). Puts out₀ t (stuffed (t .ones) all) (onesOver (t .ones) all) (record { at = s .at; count = s .count; wait = s .wait; ones = n }) out)
       (sym (h .ones)) (ends out₀ t (stuffed (t .ones) all) (onesOver (t .ones) all) out s (h .rest))
 
--- ---- one bit of a unit: what the code's three ways give
+-- a sender with another count of ones in a row
 abbrev pub marked : Tx → ℕ → Tx
 marked s ones = record { at = s .at; count = s .count; wait = s .wait; ones = ones }
-
-module _ (out : List ℕ) (t : Tx) (b : Bool) (g : TxInRange t) (r : Room t (stuffed (t .ones) (b ∷ [])) out) (p : Tx) (out₁ : List ℕ)
-    (e : Puts out t (b ∷ []) (t .ones) p out₁) where
-  abbrev Stuffs : Tx → List ℕ → Type 0
-  Stuffs = Puts out t (stuffed (t .ones) (b ∷ [])) (onesAfter (t .ones) b)
-
-  abbrev Left : List Bool → Type 0
-  Left = Rest out t (stuffed (t .ones) (b ∷ [])) (onesAfter (t .ones) b) out₁ p
-
-  -- after the bit itself, with the zero, if there is one, still to put
-  between : Left (zeroAfter (t .ones) b ++ [])
-  between =
-      goes out t (stuffed (t .ones) (b ∷ [])) (onesAfter (t .ones) b) out t (b ∷ []) (zeroAfter (t .ones) b ++ []) (t .ones) (g .short)
-      (begins out t (stuffed (t .ones) (b ∷ [])) (onesAfter (t .ones) b) g r) p out₁ e
-
-  -- no zero is put in
-  whole : (k : ℕ) → zeroAfter (t .ones) b ++ [] ≡ [] → onesAfter (t .ones) b ≡ k → Stuffs (marked p k) out₁
-  whole k z o =
-      subst (λ (n : ℕ). Stuffs (marked p n) out₁) o
-      (ends out t (stuffed (t .ones) (b ∷ [])) (onesAfter (t .ones) b) out₁ p (subst (λ (x : List Bool). Left x) z between))
-
-  pub nought : b ≡ false → Stuffs (marked p 0) out₁
-  nought f = whole 0 (rw f) (rw f)
-
-  pub fewer : b ≡ true → (t .ones ≡ 4 → ⊥) → Stuffs (marked p (t .ones + 1)) out₁
-  fewer f o = whole (t .ones + 1) (rw (f, ne-eqb (t .ones) 4 o)) (rw (f, ne-eqb (t .ones) 4 o))
-
-  -- a zero is put in
-  module _ (f : b ≡ true) (o : t .ones ≡ 4) where
-    to-put : Left (false ∷ [])
-    to-put =
-        let z : zeroAfter (t .ones) b ++ [] ≡ false ∷ [] = rw (f, eq-eqb (t .ones) 4 o) in
-        subst (λ (x : List Bool). Left x) z between
-
-    pub fifth-room : TxInRange p × Room p (false ∷ []) out₁
-    fifth-room = (to-put .ready, to-put .room)
-
-    pub fifth : (q : Tx) (out₂ : List ℕ) → Puts out₁ p (false ∷ []) (p .ones) q out₂ → Stuffs (marked q 0) out₂
-    fifth q out₂ d =
-        let k : onesAfter (t .ones) b ≡ 0 = rw (f, eq-eqb (t .ones) 4 o) in
-        subst (λ (n : ℕ). Stuffs (marked q n) out₂) k
-        (ends out t (stuffed (t .ones) (b ∷ [])) (onesAfter (t .ones) b) out₂ q
-        (goes out t (stuffed (t .ones) (b ∷ [])) (onesAfter (t .ones) b) out₁ p (false ∷ []) [] (p .ones) (to-put .ready .short) to-put q out₂ d))

@@ -1,19 +1,18 @@
 -- Bits put one after the other: where the sender is, and what stands in the area.
-use Prim.Native.Nat.{ℕ, _+_, _-_, _*_, _^_, _≤_, _<_}
+use Prim.Native.Nat.{ℕ, _+_, _*_, _≤_, _<_}
 use mathlib.Core.Path.{_≡_, refl, sym, ap, ap₂, _∙_}
 use mathlib.Core.Bool.{Bool}
-use mathlib.Core.List.{List, [], _∷_, _++_, append-nil, append-assoc}
-use native.Mathlib.Nat.{add-zero}
+use mathlib.Core.List.{List, [], _++_, append-nil, append-assoc}
 use native.Mathlib.Omega.{arith}
-use lib.ListN.{length, set, length-append}
+use lib.ListN.{length, length-append}
 use lib.Seq.{sets}
-use Rattle.bits.specs.Octets.{octetOf, wholeOctets, bitsAfter, worth}
-use Rattle.bits.proofs.Digits.{length-bitsOf, all-back, value-back, octetOf-lt, octetOf-snoc, snoc-length}
-use Rattle.bits.proofs.Whole.{length-whole, length-after, whole-few, after-few, whole-eight, after-eight, whole-append, after-append, together}
+use Rattle.bits.specs.Octets.{octetOf, wholeOctets, bitsAfter}
+use Rattle.bits.proofs.Digits.{length-bitsOf, all-back, value-back, octetOf-lt}
+use Rattle.bits.proofs.Whole.{length-whole, length-after, whole-few, after-few, whole-append, after-append, together}
 use Rattle.bits.proofs.Writing.{sets-append}
 use Rattle.sending.specs.declared.Tx.{Tx}
 use Rattle.sending.specs.Packing.{waiting, octetsOut, stillWaiting}
-use Rattle.sending.specs.InnerPutting.{afterBits, areaPut, Puts, TxInRange}
+use Rattle.sending.specs.InnerPutting.{afterBits, areaPut, TxInRange}
 use Rattle.sending.specs.Promises.{NothingLost}
 
 pub length-waiting : (t : Tx) → length (waiting t) ≡ t .count
@@ -60,7 +59,7 @@ pub written-append : (out : List ℕ) (t : Tx) (xs ys : List Bool) (ones : ℕ) 
 written-append out t xs ys ones =
     sym (sets-append (octetsOut t xs) (octetsOut (afterBits t xs ones) ys) out (t .at)) ∙ ap (sets out (t .at)) (sym (out-append t xs ys ones))
 
--- ---- no bits, and one
+-- ---- no bits
 module _ (t : Tx) (g : TxInRange t) where
   small : length (waiting t ++ []) < 8
   small = omega (arith, length-append (waiting t) [], length-waiting t, g .few)
@@ -86,32 +85,3 @@ module _ (t : Tx) (g : TxInRange t) where
 
   pub written-none : (out : List ℕ) → out ≡ areaPut out t []
   written-none out = ap (sets out (t .at)) (sym none-out)
-
-  module _ (b : Bool) where
-    one-length : length (waiting t ++ (b ∷ [])) ≡ t .count + 1
-    one-length = snoc-length (waiting t) b ∙ ap (λ (n : ℕ). n + 1) (length-waiting t)
-
-    one-value : octetOf (waiting t ++ (b ∷ [])) ≡ t .wait + worth b * 2 ^ t .count
-    one-value =
-        octetOf-snoc (waiting t) b
-        ∙ ap₂ (λ (v n : ℕ). v + worth b * 2 ^ n) (value-back (t .count) (t .wait) (g .low)) (length-waiting t)
-
-    -- the eighth bit: an octet goes out
-    pub one-whole : (wait : ℕ) (out : List ℕ) → t .count ≡ 7 → wait ≡ t .wait + worth b * 2 ^ t .count
-        → Puts out t (b ∷ []) (t .ones) (record { at = t .at + 1; count = 0; wait = 0; ones = t .ones }) (set out (t .at) wait)
-    unfolding octetsOut stillWaiting octetOf
-    one-whole wait out c e =
-        let l : length (waiting t ++ (b ∷ [])) ≡ 8 = omega (arith, one-length) in
-        let o : octetsOut t (b ∷ []) ≡ wait ∷ [] = whole-eight (waiting t ++ (b ∷ [])) l ∙ ap {B = List ℕ} (λ (k : ℕ). k ∷ []) (one-value ∙ sym e) in
-        let s : stillWaiting t (b ∷ []) ≡ [] = after-eight (waiting t ++ (b ∷ [])) l in
-        record { tx = rw (o, s); area = rw o }
-
-    -- an earlier one: it waits
-    pub one-part : (wait : ℕ) (out : List ℕ) → (t .count ≡ 7 → ⊥) → wait ≡ t .wait + worth b * 2 ^ t .count
-        → Puts out t (b ∷ []) (t .ones) (record { at = t .at; count = t .count + 1; wait = wait; ones = t .ones }) out
-    unfolding octetsOut stillWaiting
-    one-part wait out c e =
-        let l : length (waiting t ++ (b ∷ [])) < 8 = omega (arith, one-length, g .few) in
-        let o : octetsOut t (b ∷ []) ≡ [] = whole-few (waiting t ++ (b ∷ [])) l in
-        let s : stillWaiting t (b ∷ []) ≡ waiting t ++ (b ∷ []) = after-few (waiting t ++ (b ∷ [])) l in
-        record { tx = rw (o, s, one-length, one-value, e, add-zero (t .at)); area = rw o }

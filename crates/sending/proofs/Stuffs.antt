@@ -53,7 +53,7 @@ five-ones (suc (suc (suc zero))) true h = omega arith
 five-ones (suc (suc (suc (suc zero)))) true h = omega arith
 five-ones (suc (suc (suc (suc (suc ones))))) true h = absurd (omega arith)
 
-five-bits : (ones : ℕ) (bs : List Bool) → ones ≤ 4 → 5 * length (zerosIn ones bs) ≤ ones + length bs
+pub five-bits : (ones : ℕ) (bs : List Bool) → ones ≤ 4 → 5 * length (zerosIn ones bs) ≤ ones + length bs
 five-bits ones [] h = omega arith
 five-bits ones (b ∷ bs) h =
     omega (

@@ -1,9 +1,9 @@
--- What is promised of sending. The proofs are in proofs/Puttings.antt, proofs/Stuffs.antt, proofs/ReadBack.antt and proofs/Sent.antt.
+-- What is promised of sending. The proofs are in proofs/Puttings.antt, proofs/Rows.antt, proofs/Stuffs.antt, proofs/ReadBack.antt and proofs/Sent.antt.
 use mathlib.Core.Path.{_≡_}
 use mathlib.Core.Bool.{Bool, true, false}
 use mathlib.Core.List.{List, [], _∷_, _++_}
 use Prim.Native.Nat.{ℕ, _+_, _*_, _/_, _≤_, _<_}
-use lib.ListN.{length}
+use lib.ListN.{length, getD}
 use Rattle.bits.specs.Octets.{bitsOf, lineBits, wholeOctets, Octets}
 use Rattle.bits.specs.Format.{basic, Format, leastContent, mostContent}
 use Rattle.fcs.specs.Check.{checkOctets}
@@ -12,6 +12,7 @@ use Rattle.framing.specs.Delimitation.{Receiver, closed, flagged, receiverAfter
 use Rattle.framing.specs.Verdict.{verdictOf}
 use Rattle.sending.specs.declared.Tx.{Tx}
 use Rattle.sending.specs.Stuffing.{stuffed, zerosIn, onLine, unitBits, unitLine}
+use Rattle.sending.specs.Rows.{rowOf, stuffingTable}
 use Rattle.sending.specs.Packing.{waiting, octetsOut, stillWaiting}
 
 -- What goes out and what waits then are together the bits that waited, followed by the new ones; at most seven bits wait.
@@ -19,6 +20,10 @@ abbrev pub NothingLost : Type 0
 NothingLost =
     (t : Tx) (bs : List Bool)
     → (lineBits (octetsOut t bs) ++ stillWaiting t bs ≡ waiting t ++ bs) × (length (stillWaiting t bs) ≤ 7)
+
+-- Each row of the table is the stuffing rule for its count of ones in a row and its octet.
+abbrev pub EachRow : Type 0
+EachRow = (ones octet : ℕ) → ones ≤ 4 → octet < 256 → getD stuffingTable (ones * 256 + octet) 0 ≡ rowOf ones octet
 
 -- The zeros put in are at most a fifth of the unit's bits.
 abbrev pub ZerosFifth : Type 0

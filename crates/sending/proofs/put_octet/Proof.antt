@@ -1,78 +1,72 @@
--- `sending::put_octet` meets its contract: the bits that are left, stuffed and put from here, give the whole.
-use Prim.Native.Nat.{ℕ, _-_, _/_, _≤_, _<_}
-use mathlib.Core.Path.{_≡_, subst}
+-- `sending::put_octet` meets its contract: the row of the ones in a row and the octet gives the piece.
+use Prim.Native.Nat.{ℕ}
+use mathlib.Core.Path.{sym, subst, subst₂}
 use mathlib.Core.Bool.{Bool}
-use mathlib.Core.List.{List, [], _∷_}
+use mathlib.Core.List.{List}
 use native.Mathlib.Omega.{arith}
-use Rattle.bits.specs.Octets.{odd, bitsOf}
-use Rattle.bits.proofs.Digits.{bits-cons}
-use Rattle.sending.specs.declared.Tx.{Tx}
-use Rattle.sending.proofs.PutSteps.{Going, sets-out, going-room, goes-on, going-ends}
+use Rattle.sending.specs.InnerPutting.{Puts, Room}
+use Rattle.sending.proofs.Rows.{row-says}
+use borrow.Author.Needs.{needs}
 use Rattle.sending.proofs.put_octet.Statement.{statement}
 use Rattle.sending.proofs.put_octet.Tie as tie
 
-abbrev Inv-loop : tie.InvT-loop
-Inv-loop out₀ octet s₀ rest₀ left₀ out s rest left = (left ≤ 8) × Going out₀ s₀ (bitsOf 8 octet) out s (bitsOf left rest)
+cast-at : tie.Need-cast-at
+cast-at c = search needs
 
-abbrev μ-loop : tie.MeasureT-loop
-μ-loop out₀ octet s₀ rest₀ left₀ out s rest left = left
+mul-at : tie.Need-mul-at
+mul-at c = search needs
 
--- the next bit comes first
-first : (out₀ : List ℕ) (t : Tx) (all : List Bool) (out : List ℕ) (s : Tx) (left rest : ℕ) → 0 < left → Going out₀ t all out s (bitsOf left rest)
-    → Going out₀ t all out s (odd rest ∷ bitsOf (left - 1) (rest / 2))
-first out₀ t all out s left rest h g = subst (λ (x : List Bool). Going out₀ t all out s x) (bits-cons left rest h) g
+add-at : tie.Need-add-at
+add-at c = search needs
 
-loop-holds : tie.Need-loop-holds Inv-loop μ-loop
-loop-holds c =
-    let s = c .before in
-    (omega arith, sets-out (s .args .out .now) (s .args .t) (bitsOf 8 (s .args .octet)) (s .pre .0) (s .pre .1))
+mul-row : tie.Need-mul-row
+mul-row c = search needs
 
-put-stuffed-requires : tie.Need-put-stuffed-requires Inv-loop μ-loop
-put-stuffed-requires c κs =
-    let l = c .before .before in
-    let a = l .before .before .args in
-    going-room (a .out .now) (a .t) (bitsOf 8 (a .octet)) (l .loop .out) (l .loop .s) (odd (l .loop .rest) ∷ []) (bitsOf (l .loop .left - 1) (l .loop .rest / 2))
-    (first (a .out .now) (a .t) (bitsOf 8 (a .octet)) (l .loop .out) (l .loop .s) (l .loop .left) (l .loop .rest) (c .before .loop-test .taken) (l .loop .inv .1))
+element-copy-out-row : tie.Need-element-copy-out-row
+element-copy-out-row c = search needs
 
-sub-left : tie.Need-sub-left Inv-loop μ-loop
-sub-left c = omega arith
+cast-zeros : tie.Need-cast-zeros
+cast-zeros c = search needs
 
-loop-less : tie.Need-loop-less Inv-loop μ-loop
-loop-less c = omega arith
+add-put-piece : tie.Need-add-put-piece
+add-put-piece c = search needs
 
-loop-again : tie.Need-loop-again Inv-loop μ-loop
-loop-again c =
-    let d = c .before .before in
-    let l = d .before .before .before in
-    let a = l .before .before .args in (
-      omega arith,
-      goes-on (a .out .now) (a .t) (bitsOf 8 (a .octet)) (l .loop .out) (l .loop .s) (odd (l .loop .rest) ∷ []) (bitsOf (l .loop .left - 1) (l .loop .rest / 2))
-          (first (a .out .now) (a .t) (bitsOf 8 (a .octet)) (l .loop .out) (l .loop .s) (l .loop .left) (l .loop .rest) (d .before .before .loop-test .taken) (l .loop .inv .1))
-          (d .put-stuffed .result) (d .put-stuffed .last .0) (d .put-stuffed .ensures),
+cast-put-piece : tie.Need-cast-put-piece
+cast-put-piece c =
+    let s = c .before .before .before .before in
+    let w = row-says (s .args .rows .now) (s .args .t .ones) (s .args .octet) (s .pre .1) (s .pre .0 .0 .short) (omega arith) in
+    omega (arith, w .short)
+
+put-piece-requires : tie.Need-put-piece-requires
+put-piece-requires c κs =
+    let s = c .before .before .before .before in
+    let w = row-says (s .args .rows .now) (s .args .t .ones) (s .args .octet) (s .pre .1) (s .pre .0 .0 .short) (omega arith) in (
+      (s .pre .0 .0, subst (λ (x : List Bool). Room (s .args .t) x (s .args .out .now)) (sym (w .piece)) (s .pre .0 .1)),
+      (w .small, omega arith, omega (arith, w .few)),
     )
 
-same-length : tie.Need-same-length Inv-loop μ-loop
-same-length c = c .before .loop .inv .1 .rest .same
+same-length : tie.Need-same-length
+same-length c = search needs
 
-returns : tie.Need-returns Inv-loop μ-loop
-unfolding bitsOf
+returns : tie.Need-returns
 returns c =
-    let l = c .before in
-    let a = l .before .before .args in
-    let z : l .loop .left ≡ 0 = omega (arith, c .loop-test .left) in
-    going-ends (a .out .now) (a .t) (bitsOf 8 (a .octet)) (l .loop .out) (l .loop .s)
-    (subst (λ (k : ℕ). Going (a .out .now) (a .t) (bitsOf 8 (a .octet)) (l .loop .out) (l .loop .s) (bitsOf k (l .loop .rest))) z (l .loop .inv .1))
+    let s = c .before .before .before .before .before .before .before in
+    let p = c .before .before .put-piece in
+    let w = row-says (s .args .rows .now) (s .args .t .ones) (s .args .octet) (s .pre .1) (s .pre .0 .0 .short) (omega arith) in
+    subst₂ (λ (x : List Bool) (n : ℕ). Puts (s .args .out .now) (s .args .t) x n (p .result) (p .last .0)) (w .piece) (w .then) (p .ensures)
 
 pub put-octet-spec : {M : Type 1} → statement M
 put-octet-spec =
     tie.close
     (tie.spec
-    Inv-loop
-    μ-loop
-    loop-holds
-    put-stuffed-requires
-    sub-left
-    loop-less
-    loop-again
+    cast-at
+    mul-at
+    add-at
+    mul-row
+    element-copy-out-row
+    cast-zeros
+    add-put-piece
+    cast-put-piece
+    put-piece-requires
     same-length
     returns)

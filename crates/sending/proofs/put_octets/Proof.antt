@@ -13,10 +13,10 @@ use Rattle.sending.proofs.put_octets.Statement.{statement}
 use Rattle.sending.proofs.put_octets.Tie as tie
 
 abbrev Inv-loop : tie.InvT-loop
-Inv-loop out₀ octets s₀ i₀ out s i = (i ≤ length octets) × Going out₀ s₀ (lineBits octets) out s (lineBits (drop i octets))
+Inv-loop out₀ octets rows s₀ i₀ out s i = (i ≤ length octets) × Going out₀ s₀ (lineBits octets) out s (lineBits (drop i octets))
 
 abbrev μ-loop : tie.MeasureT-loop
-μ-loop out₀ octets s₀ i₀ out s i = length octets - i
+μ-loop out₀ octets rows s₀ i₀ out s i = length octets - i
 
 -- the next octet comes first
 first : (out₀ : List ℕ) (t : Tx) (xs : List ℕ) (out : List ℕ) (s : Tx) (i : ℕ) → i < length xs → Going out₀ t (lineBits xs) out s (lineBits (drop i xs))
@@ -26,7 +26,7 @@ first out₀ t xs out s i h g = subst (λ (x : List Bool). Going out₀ t (lineB
 loop-holds : tie.Need-loop-holds Inv-loop μ-loop
 loop-holds c =
     let s = c .before .before in
-    (omega arith, sets-out (s .args .out .now) (s .args .t) (lineBits (s .args .octets .now)) (s .pre .0) (s .pre .1))
+    (omega arith, sets-out (s .args .out .now) (s .args .t) (lineBits (s .args .octets .now)) (s .pre .0 .0) (s .pre .0 .1))
 
 shared-slice-read-put-octet : tie.Need-shared-slice-read-put-octet Inv-loop μ-loop
 shared-slice-read-put-octet c = omega arith
@@ -34,9 +34,11 @@ shared-slice-read-put-octet c = omega arith
 put-octet-requires : tie.Need-put-octet-requires Inv-loop μ-loop
 put-octet-requires c κs =
     let l = c .before .before .before in
-    let a = l .before .before .before .args in
-    going-room (a .out .now) (a .t) (lineBits (a .octets .now)) (l .loop .out) (l .loop .s) (bitsOf 8 (getD (a .octets .now) (l .loop .i) 0)) (lineBits (drop (l .loop .i + 1) (a .octets .now)))
-    (first (a .out .now) (a .t) (a .octets .now) (l .loop .out) (l .loop .s) (l .loop .i) (c .before .before .loop-test .taken) (l .loop .inv .1))
+    let a = l .before .before .before .args in (
+      going-room (a .out .now) (a .t) (lineBits (a .octets .now)) (l .loop .out) (l .loop .s) (bitsOf 8 (getD (a .octets .now) (l .loop .i) 0)) (lineBits (drop (l .loop .i + 1) (a .octets .now)))
+          (first (a .out .now) (a .t) (a .octets .now) (l .loop .out) (l .loop .s) (l .loop .i) (c .before .before .loop-test .taken) (l .loop .inv .1)),
+      l .before .before .before .pre .1,
+    )
 
 add-i : tie.Need-add-i Inv-loop μ-loop
 add-i c = omega arith
