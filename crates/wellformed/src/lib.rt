@@ -2,15 +2,21 @@
 use board::Counting;
 use board::Link;
 use board::Settings;
+use board::Supervision;
 use board::Transmitter;
+use board::UnitState;
 use framing::Line;
 use monitor::Mode;
 use monitor::Monitor;
+ghost use Prim.Native.Nat.{ℕ};
 ghost use mathlib.Core.Path.{_≡_};
-ghost use mathlib.Core.Bool.{true, false, _&&_};
+ghost use mathlib.Core.Bool.{Bool, true, false, _&&_};
+ghost use mathlib.Core.List.{List};
 ghost use lib.Dec.{eqb};
 ghost use lib.ListN.{drop};
 ghost use Rattle.bits.specs.Format.{basic};
+ghost use Rattle.filter.specs.declared.Memory.{Memory};
+ghost use Rattle.board.specs.declared.Counts.{Counts};
 ghost use Rattle.board.specs.Malformed.{zeroPast, within, inRange, lineOut, counterOut, countOut, monitorOut, transmitterOut, openMalformed, isOff, numbers, isNew, malformed};
 ghost use Rattle.memory.specs.Lent.{zeros};
 
@@ -102,20 +108,25 @@ fn transmitter_out(t: Transmitter) -> bool
     (7 < t.count) | (!t.flagged & (0 < t.count)) | !clean
 }
 
-// Whether an open link is out of order.
-fn open_malformed(link: Link) -> bool
-    ensures { λ r. ⌜ r ≡ openMalformed link ⌝ }
+// Whether an open link that has these parts is out of order.
+fn open_malformed(
+    s: Settings,
+    line: Line,
+    area: &[u8; 279],
+    counting: Counting,
+    monitor: Monitor,
+    next: u16,
+    t: Transmitter,
+) -> bool
+    ensures { λ r. ⌜ ((o : Bool) (m : Memory) (c : Counts) (e : ℕ) → r ≡ openMalformed (record { opened = o; settings = s; line = record { state = line; area = now (area .entry) }; units = record { counting = counting; memory = m; slots = record { next = next }; counts = c }; supervision = record { monitor = monitor; events = e }; transmitter = t })) ⌝ }
 {
-    let s = link.settings;
-    let state = link.line.state;
-    let area = link.line.area;
-    let clean = zero_past(&area, state.bits);
+    let clean = zero_past(area, line.bits);
     let settings = in_range(s);
-    let line = line_out(s.m, state);
-    let counter = counter_out(s.n, link.units.counting);
-    let counts = monitor_out(s, link.supervision.monitor);
-    let sender = transmitter_out(link.transmitter);
-    !clean | !settings | line | counter | counts | (s.k <= link.units.slots.next) | sender
+    let state = line_out(s.m, line);
+    let counter = counter_out(s.n, counting);
+    let counts = monitor_out(s, monitor);
+    let sender = transmitter_out(t);
+    !clean | !settings | state | counter | counts | (s.k <= next) | sender
 }
 
 // Whether the mode is off.
@@ -138,13 +149,12 @@ fn wide(octet: u8) -> u16
 }
 
 // Whether every number of a link but its run of ones is zero.
-fn numbers_zero(link: Link) -> bool
-    ensures { λ r. ⌜ r ≡ zeros (numbers link) ⌝ }
+fn numbers_zero(s: Settings, line: Line, u: UnitState, v: Supervision, t: Transmitter) -> bool
+    ensures { λ r. ⌜ ((o : Bool) (a : List ℕ) → r ≡ zeros (numbers (record { opened = o; settings = s; line = record { state = line; area = a }; units = u; supervision = v; transmitter = t }))) ⌝ }
 {
-    let s = link.settings;
-    let counts = link.units.counts;
-    let count = wide(link.transmitter.count);
-    let wait = wide(link.transmitter.wait);
+    let counts = u.counts;
+    let count = wide(t.count);
+    let wait = wide(t.wait);
     let words = [
         s.k,
         s.m,
@@ -152,17 +162,17 @@ fn numbers_zero(link: Link) -> bool
         s.t,
         s.d,
         s.a,
-        link.line.state.bits,
-        link.units.counting.left,
-        link.supervision.monitor.count,
-        link.supervision.monitor.number,
-        link.units.memory.length,
-        link.units.slots.next,
+        line.bits,
+        u.counting.left,
+        v.monitor.count,
+        v.monitor.number,
+        u.memory.length,
+        u.slots.next,
         counts.good,
         counts.over,
         counts.dropped,
         counts.lost,
-        link.supervision.events,
+        v.events,
         count,
         wait,
     ];
@@ -170,52 +180,71 @@ fn numbers_zero(link: Link) -> bool
 }
 
 // Whether every array of a link is zero.
-fn arrays_zero(mask: [u8; 5], area: [u8; 279], held: [u8; 5], last: [u8; 2]) -> bool
-    ensures { λ r. ⌜ r ≡ (((zeros mask && zeros area) && zeros held) && zeros last) ⌝ }
+fn arrays_zero(mask: [u8; 5], area: &[u8; 279], held: [u8; 5], last: [u8; 2]) -> bool
+    ensures { λ r. ⌜ r ≡ (((zeros mask && zeros (now (area .entry))) && zeros held) && zeros last) ⌝ }
 {
     let a = memory::no_octet(&mask);
-    let b = memory::no_octet(&area);
+    let b = memory::no_octet(area);
     let c = memory::no_octet(&held);
     let d = memory::no_octet(&last);
     a & b & c & d
 }
 
 // Whether a closed link is the new link.
-fn is_new(link: Link) -> bool
-    ensures { λ r. ⌜ r ≡ isNew link ⌝ }
+fn is_new(
+    s: Settings,
+    line: Line,
+    area: &[u8; 279],
+    u: UnitState,
+    v: Supervision,
+    t: Transmitter,
+) -> bool
+    ensures { λ r. ⌜ ((o : Bool) → r ≡ isNew (record { opened = o; settings = s; line = record { state = line; area = now (area .entry) }; units = u; supervision = v; transmitter = t })) ⌝ }
 {
-    let s = link.settings;
-    let state = link.line.state;
-    let t = link.transmitter;
-    let m = link.supervision.monitor;
+    let m = v.monitor;
     let mode = m.mode;
     let mask = s.mask;
-    let area = link.line.area;
-    let held = link.units.memory.octets;
+    let held = u.memory.octets;
     let last = t.last;
-    let numbers = numbers_zero(link);
+    let numbers = numbers_zero(s, line, u, v, t);
     let arrays = arrays_zero(mask, area, held, last);
     let off = is_off(mode);
     numbers
         & arrays
-        & (state.run == 7)
-        & state.hunting
+        & (line.run == 7)
+        & line.hunting
         & off
         & !s.filter
         & !s.itu
         & !s.orn
-        & !link.units.counting.on
-        & !link.units.memory.alike
+        & !u.counting.on
+        & !u.memory.alike
         & !t.flagged
         & !t.sent
 }
 
-// Whether a link is malformed.
-pub fn is_malformed(link: Link) -> bool
-    ensures { λ r. ⌜ r ≡ malformed link ⌝ }
+// Whether a link is malformed. It comes in its parts, so that its gathering area is lent and not copied.
+pub fn is_malformed(
+    opened: bool,
+    settings: Settings,
+    line: Line,
+    area: &[u8; 279],
+    units: UnitState,
+    supervision: Supervision,
+    transmitter: Transmitter,
+) -> bool
+    ensures { λ r. ⌜ r ≡ malformed (record { opened = opened; settings = settings; line = record { state = line; area = now (area .entry) }; units = units; supervision = supervision; transmitter = transmitter }) ⌝ }
 {
-    if link.opened {
-        return open_malformed(link);
+    if opened {
+        return open_malformed(
+            settings,
+            line,
+            area,
+            units.counting,
+            supervision.monitor,
+            units.slots.next,
+            transmitter,
+        );
     }
-    !is_new(link)
+    !is_new(settings, line, area, units, supervision, transmitter)
 }

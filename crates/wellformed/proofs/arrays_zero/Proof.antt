@@ -10,20 +10,17 @@ slice-aggregate-no-octet c = search needs
 no-octet-requires : tie.Need-no-octet-requires
 no-octet-requires c κs = search needs
 
-slice-aggregate-no-octet-2 : tie.Need-slice-aggregate-no-octet-2
-slice-aggregate-no-octet-2 c = search needs
-
 no-octet-requires-2 : tie.Need-no-octet-requires-2
 no-octet-requires-2 c κs = search needs
 
-slice-aggregate-no-octet-3 : tie.Need-slice-aggregate-no-octet-3
-slice-aggregate-no-octet-3 c = search needs
+slice-aggregate-no-octet-2 : tie.Need-slice-aggregate-no-octet-2
+slice-aggregate-no-octet-2 c = search needs
 
 no-octet-requires-3 : tie.Need-no-octet-requires-3
 no-octet-requires-3 c κs = search needs
 
-slice-aggregate-no-octet-4 : tie.Need-slice-aggregate-no-octet-4
-slice-aggregate-no-octet-4 c = search needs
+slice-aggregate-no-octet-3 : tie.Need-slice-aggregate-no-octet-3
+slice-aggregate-no-octet-3 c = search needs
 
 no-octet-requires-4 : tie.Need-no-octet-requires-4
 no-octet-requires-4 c κs = search needs
@@ -40,10 +37,9 @@ arrays-zero-spec =
     (tie.spec
     slice-aggregate-no-octet
     no-octet-requires
-    slice-aggregate-no-octet-2
     no-octet-requires-2
-    slice-aggregate-no-octet-3
+    slice-aggregate-no-octet-2
     no-octet-requires-3
-    slice-aggregate-no-octet-4
+    slice-aggregate-no-octet-3
     no-octet-requires-4
     returns)

@@ -17,14 +17,14 @@ is-off-requires c κs = search needs
 
 returns : tie.Need-returns
 unfolding isNew
-returns c =
+returns c o =
     let d = c .before .before .before .before .before .before .before .before .before in
     let n = d .before .before in
-    let l = n .before .before .before .before .before .before .before .before .before .args .link in
+    let l = n .before .before .before .before .before .args in
     λ i.
-    ((((((((((n .numbers-zero .ensures i && d .before .arrays-zero .ensures i) && eqb (l .line .state .run) 7) && l .line .state .hunting)
-    && d .is-off .ensures i) && not (l .settings .filter)) && not (l .settings .itu)) && not (l .settings .orn)) && not (l .units .counting .on))
-    && not (l .units .memory .alike)) && not (l .transmitter .flagged)) && not (l .transmitter .sent)
+    ((((((((((n .numbers-zero .ensures o (l .area .now) i && d .before .arrays-zero .ensures i) && eqb (l .line .run) 7) && l .line .hunting)
+    && d .is-off .ensures i) && not (l .s .filter)) && not (l .s .itu)) && not (l .s .orn)) && not (l .u .counting .on))
+    && not (l .u .memory .alike)) && not (l .t .flagged)) && not (l .t .sent)
 
 pub is-new-spec : {M : Type 1} → statement M
 is-new-spec =

@@ -19,15 +19,14 @@ no-word-requires : tie.Need-no-word-requires
 no-word-requires c κs = search needs
 
 returns : tie.Need-returns
-returns c =
+returns c o a =
     let w = c .before .before in
-    let l = w .before .before .before .before .args .link in
+    let l = w .before .before .before .args in
     c .no-word .ensures
     ∙ λ i.
     zeros
-    (l .settings .k ∷ l .settings .m ∷ l .settings .n ∷ l .settings .t ∷ l .settings .d ∷ l .settings .a ∷ l .line .state .bits
-    ∷ l .units .counting .left ∷ l .supervision .monitor .count ∷ l .supervision .monitor .number ∷ l .units .memory .length ∷ l .units .slots .next ∷ l .units .counts .good ∷ l .units .counts .over
-    ∷ l .units .counts .dropped ∷ l .units .counts .lost ∷ l .supervision .events ∷ w .before .wide .ensures i ∷ w .wide2 .ensures i ∷ [])
+    (l .s .k ∷ l .s .m ∷ l .s .n ∷ l .s .t ∷ l .s .d ∷ l .s .a ∷ l .line .bits ∷ l .u .counting .left ∷ l .v .monitor .count ∷ l .v .monitor .number
+    ∷ l .u .memory .length ∷ l .u .slots .next ∷ l .u .counts .good ∷ l .u .counts .over ∷ l .u .counts .dropped ∷ l .u .counts .lost ∷ l .v .events ∷ w .before .wide .ensures i ∷ w .wide2 .ensures i ∷ [])
 
 pub numbers-zero-spec : {M : Type 1} → statement M
 numbers-zero-spec =

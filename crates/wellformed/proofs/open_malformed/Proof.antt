@@ -6,9 +6,6 @@ use Rattle.board.specs.Malformed.{openMalformed}
 use Rattle.wellformed.proofs.open_malformed.Statement.{statement}
 use Rattle.wellformed.proofs.open_malformed.Tie as tie
 
-slice-aggregate-zero-past : tie.Need-slice-aggregate-zero-past
-slice-aggregate-zero-past c = search needs
-
 zero-past-requires : tie.Need-zero-past-requires
 zero-past-requires c κs = search needs
 
@@ -29,23 +26,22 @@ transmitter-out-requires c κs = search needs
 
 returns : tie.Need-returns
 unfolding openMalformed
-returns c =
-    let t = c .before .before in
+returns c o held counts e =
+    let t = c .before in
     let m = t .before in
     let n = m .before in
     let l = n .before in
     let r = l .before in
     let z = r .before in
-    let k = z .before .before .before .before .before .args .link in
+    let k = z .before .before .args in
     λ i.
     (((((not (z .zero-past .ensures i) || not (r .in-range .ensures i)) || l .line-out .ensures i) || n .counter-out .ensures i)
-    || m .monitor-out .ensures i) || leb (k .settings .k) (k .units .slots .next)) || t .transmitter-out .ensures i
+    || m .monitor-out .ensures i) || leb (k .s .k) (k .next)) || t .transmitter-out .ensures i
 
 pub open-malformed-spec : {M : Type 1} → statement M
 open-malformed-spec =
     tie.close
     (tie.spec
-    slice-aggregate-zero-past
     zero-past-requires
     in-range-requires
     line-out-requires
