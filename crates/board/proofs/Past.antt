@@ -1,15 +1,15 @@
 -- Octets that are zero past their first bits.
 use Prim.Native.Nat.{ℕ, zero, suc, _+_, _-_, _*_, _/_, _%_, _^_, _≤_, _<_}
 use mathlib.Core.Path.{_≡_, refl, sym, ap, ap₂, _∙_}
-use mathlib.Core.Bool.{Bool, true, false, not, _&&_, and-true, and-assoc, false≢true}
+use mathlib.Core.Bool.{Bool, true, false, not, _&&_, and-assoc, false≢true}
 use mathlib.Core.List.{List, [], _∷_, _++_, append-nil}
 use native.Mathlib.Nat.{pow-suc, sub-zero, div-lt-iff-lt-mul}
 use native.Mathlib.Decide.{decLt}
 use native.Mathlib.Omega.{arith}
-use lib.Bits.{bitOr, or-add-and, and-le-l, and-le-r}
+use lib.Bits.{bitOr}
 use lib.Dec.{eqb}
 use lib.ListN.{length, getD, take, drop, length-drop, drop-of-length-le, take-append-drop}
-use lib.Seq.{append-snoc, take-all, drop-nil, drop-at}
+use lib.Seq.{append-snoc, take-all, drop-nil, drop-at, getD-drop}
 use lib.Pow.{pow-add, pow-pos, pow-lt}
 use borrow.Author.Tests.{eq-eqb, ne-eqb, eqb-true, eqb-false}
 use Rattle.bits.specs.Octets.{odd, bitsOf, lineBits, octetOf, packed}
@@ -17,6 +17,8 @@ use Rattle.bits.proofs.Digits.{length-bitsOf, bits-more, octetOf-lt}
 use Rattle.bits.proofs.Lines.{line-drop}
 use Rattle.bits.proofs.Packing.{repack}
 use Rattle.bits.proofs.Gathering.{zero-in}
+use Rattle.memory.specs.Lent.{zeros}
+use Rattle.memory.proofs.Loops.{or-zero}
 use Rattle.board.specs.Malformed.{noOnes, zeroPast}
 use Rattle.board.specs.Promises.{PastHolds, PackedPast}
 
@@ -109,26 +111,13 @@ octets-past (suc k) n (x ∷ xs) =
     let e : suc k * 8 + n - 8 ≡ k * 8 + n = omega arith in
     past-goes (x ∷ xs) 0 (suc k * 8 + n) (omega arith) (none-above x (suc k * 8 + n) (omega arith)) ∙ ap (λ (j : ℕ). zeroPast j xs) e ∙ octets-past k n xs
 
--- ---- octets or-ed
-or-zero : (a b : ℕ) → eqb (bitOr a b) 0 ≡ eqb a 0 && eqb b 0
-or-zero a b = go (eqb a 0) (eqb b 0) refl refl
-  where
-    go : (x y : Bool) → eqb a 0 ≡ x → eqb b 0 ≡ y → eqb (bitOr a b) 0 ≡ x && y
-    go true true p q = eq-eqb (bitOr a b) 0 (omega (arith, or-add-and a b, eqb-true a 0 p, eqb-true b 0 q))
-    go true false p q = ne-eqb (bitOr a b) 0 (λ z. eqb-false b 0 q (omega (arith, or-add-and a b, and-le-l a b)))
-    go false y p q = ne-eqb (bitOr a b) 0 (λ z. eqb-false a 0 p (omega (arith, or-add-and a b, and-le-r a b)))
-
--- the or of the octets looked at and the rest decide together: the next octet goes over from one to the other
-pub or-next : (xs : List ℕ) (i all : ℕ) → i < length xs → getD xs i 0 < 256
-    → eqb (bitOr all (getD xs i 0)) 0 && zeroPast 0 (drop (i + 1) xs) ≡ eqb all 0 && zeroPast 0 (drop i xs)
-or-next xs i all h l =
-    let e : getD xs i 0 ≡ getD xs i 0 / 2 ^ 0 = omega arith in
-    ap (λ (b : Bool). b && zeroPast 0 (drop (i + 1) xs)) (or-zero all (getD xs i 0))
-    ∙ and-assoc (eqb all 0) (eqb (getD xs i 0) 0) (zeroPast 0 (drop (i + 1) xs))
-    ∙ ap (λ (b : Bool). eqb all 0 && b) (ap (λ (y : ℕ). eqb y 0 && zeroPast 0 (drop (i + 1) xs)) e ∙ sym (octet-and-rest xs i 0 h l (omega arith)))
-
-pub or-ends : (xs : List ℕ) (i all : ℕ) → length xs ≤ i → eqb all 0 ≡ eqb all 0 && zeroPast 0 (drop i xs)
-or-ends xs i all h = sym (ap (λ (b : Bool). eqb all 0 && b) (past-ends xs i 0 h) ∙ and-true (eqb all 0))
+-- no bit of octets is a one where all are zero, and nowhere else
+zeros-past : (xs : List ℕ) → ((i : ℕ) → getD xs i 0 < 256) → zeroPast 0 xs ≡ zeros xs
+unfolding zeros
+zeros-past [] l = past-ends [] 0 0 (omega arith)
+zeros-past (x ∷ xs) l =
+    let e : x / 2 ^ 0 ≡ x = omega arith in
+    octet-and-rest (x ∷ xs) 0 0 (omega arith) (l 0) (omega arith) ∙ ap₂ (λ (y : ℕ) (b : Bool). eqb y 0 && b) e (zeros-past xs (λ i. l (suc i)))
 
 -- ---- the octet that the first bits end in
 module _ (xs : List ℕ) (n : ℕ) where
@@ -138,11 +127,14 @@ module _ (xs : List ℕ) (n : ℕ) where
   pub all-taken : length xs ≤ n / 8 → zeroPast n xs ≡ true
   all-taken h = at-octet ∙ past-ends xs (n / 8) (n % 8) h
 
-  pub or-decides : (rest : ℕ) → n / 8 < length xs → getD xs (n / 8) 0 < 256 → eqb rest 0 ≡ zeroPast 0 (drop (n / 8 + 1) xs)
+  -- that octet's bits after them, or-ed with the octets after it, decide
+  pub or-decides : (rest : ℕ) → n / 8 < length xs → ((i : ℕ) → getD xs i 0 < 256) → eqb rest 0 ≡ zeros (drop (n / 8 + 1) xs)
       → eqb (bitOr (getD xs (n / 8) 0 / 2 ^ (n % 8)) rest) 0 ≡ zeroPast n xs
   or-decides rest h l e =
-      or-zero (getD xs (n / 8) 0 / 2 ^ (n % 8)) rest ∙ ap (λ (b : Bool). eqb (getD xs (n / 8) 0 / 2 ^ (n % 8)) 0 && b) e
-      ∙ sym (at-octet ∙ octet-and-rest xs (n / 8) (n % 8) h l (omega arith))
+      let after : (i : ℕ) → getD (drop (n / 8 + 1) xs) i 0 < 256 = λ i. rw getD-drop (l (n / 8 + 1 + i)) in
+      or-zero (getD xs (n / 8) 0 / 2 ^ (n % 8)) rest
+      ∙ ap (λ (b : Bool). eqb (getD xs (n / 8) 0 / 2 ^ (n % 8)) 0 && b) (e ∙ sym (zeros-past (drop (n / 8 + 1) xs) after))
+      ∙ sym (at-octet ∙ octet-and-rest xs (n / 8) (n % 8) h (l (n / 8)) (omega arith))
 
 -- ---- an area that is zero past n bits is the packing of those bits
 packed-zeros : (k : ℕ) (z g : List Bool) → noOnes z ≡ true → packed k (g ++ z) ≡ packed k g

@@ -1,42 +1,36 @@
--- The two shapes of loop, over any list: each element is tested for zero, or each is written with a target's element.
+-- The two shapes of loop, over any list: the elements are or-ed, or each is written with a target's element.
 use Prim.Native.Nat.{ℕ, suc, _+_, _<_, _≤_}
 use mathlib.Core.Path.{_≡_, refl, sym, ap, _∙_}
-use mathlib.Core.Bool.{true, false}
+use mathlib.Core.Bool.{Bool, true, false, _&&_, and-true, and-assoc}
 use mathlib.Core.List.{List, [], _∷_, _++_, append-assoc, append-nil}
 use native.Mathlib.Numerals.{add-one}
 use native.Mathlib.Omega.{arith}
-use borrow.Author.Tests.{eq-eqb, ne-eqb}
+use borrow.Author.Tests.{eq-eqb, ne-eqb, eqb-true, eqb-false}
+use lib.Bits.{bitOr, or-add-and, and-le-l, and-le-r}
+use lib.Dec.{eqb}
 use lib.ListN.{length, getD, take, drop, set, length-set, drop-of-length-le}
 use lib.Seq.{drop-cons, take-suc, take-all, set-at, length-take-le}
 use Rattle.memory.specs.Lent.{zeros}
 
--- ---- i elements looked at, all of them zero: the rest decides
-pub record Looked (l : List ℕ) (i : ℕ) : Type 0 where
-  pub within : i ≤ length l
-  pub rest : zeros (drop i l) ≡ zeros l
+-- ---- elements or-ed
+pub or-zero : (a b : ℕ) → eqb (bitOr a b) 0 ≡ eqb a 0 && eqb b 0
+or-zero a b = go (eqb a 0) (eqb b 0) refl refl
+  where
+    go : (x y : Bool) → eqb a 0 ≡ x → eqb b 0 ≡ y → eqb (bitOr a b) 0 ≡ x && y
+    go true true p q = eq-eqb (bitOr a b) 0 (omega (arith, or-add-and a b, eqb-true a 0 p, eqb-true b 0 q))
+    go true false p q = ne-eqb (bitOr a b) 0 (λ z. eqb-false b 0 q (omega (arith, or-add-and a b, and-le-l a b)))
+    go false y p q = ne-eqb (bitOr a b) 0 (λ z. eqb-false a 0 p (omega (arith, or-add-and a b, and-le-r a b)))
 
-pub look-start : (l : List ℕ) → Looked l 0
-look-start l = record { within = omega arith; rest = refl }
-
-next : (l : List ℕ) (i : ℕ) → i < length l → drop i l ≡ getD l i 0 ∷ drop (i + 1) l
-next l i h = rw (add-one, drop-cons l i 0)
-
-module _ {l : List ℕ} {i : ℕ} (k : Looked l i) where
-  pub look-more : i < length l → getD l i 0 ≡ 0 → Looked l (i + 1)
+-- the or of the elements looked at and the rest decide together: the next element goes over from one to the other
+module _ (l : List ℕ) (i all : ℕ) where
+  pub or-next : i < length l → eqb (bitOr all (getD l i 0)) 0 && zeros (drop (i + 1) l) ≡ eqb all 0 && zeros (drop i l)
   unfolding zeros
-  look-more h e =
-      let more : zeros (drop i l) ≡ zeros (drop (i + 1) l) = rw (next l i h) (simp (eq-eqb _ _ e)) in
-      record { within = omega arith; rest = sym more ∙ k .rest }
+  or-next h =
+      rw (or-zero all (getD l i 0), and-assoc (eqb all 0) (eqb (getD l i 0) 0) (zeros (drop (i + 1) l)), add-one, drop-cons l i 0 h)
 
-  pub look-stop : i < length l → (getD l i 0 ≡ 0 → ⊥) → false ≡ zeros l
+  pub or-ends : length l ≤ i → eqb all 0 ≡ eqb all 0 && zeros (drop i l)
   unfolding zeros
-  look-stop h e =
-      let stop : zeros (drop i l) ≡ false = rw (next l i h) (simp (ne-eqb _ _ e)) in
-      sym stop ∙ k .rest
-
-  pub look-end : length l ≤ i → true ≡ zeros l
-  unfolding zeros
-  look-end h = sym (ap zeros (drop-of-length-le l h)) ∙ k .rest
+  or-ends h = rw (drop-of-length-le l h, and-true (eqb all 0))
 
 -- ---- i elements of the target t written over those of d, which gives s
 pub record Written (t d s : List ℕ) (i : ℕ) : Type 0 where

@@ -1,7 +1,8 @@
 // The memory that the host lends: the pool, K slots of 280 octets each, and the descriptors, two words for each slot: status, then length.
 ghost use mathlib.Core.Path.{_≡_};
 ghost use Prim.Native.Nat.{ℕ, _+_, _*_, _≤_, _<_};
-ghost use lib.ListN.{length, take, getD};
+ghost use lib.Dec.{eqb};
+ghost use lib.ListN.{length, take, drop, getD};
 ghost use Rattle.bits.specs.Format.{basic};
 ghost use Rattle.memory.specs.Lent.{statusWord, zeros, wiped, emptyDescriptors, withSlot, withDescriptor, filled, emptySlot, nextSlot};
 
@@ -18,32 +19,37 @@ pub enum Status {
     NotWhole,
 }
 
+// All octets from a place on, or-ed: 0 if all are zero. A loop without an exit compiles to many octets a step.
+pub fn or_from(octets: &[u8], from: usize) -> u8
+    ensures { λ r. ⌜ eqb r 0 ≡ zeros (drop from (now (octets .entry))) ⌝ }
+{
+    let mut all: u8 = 0;
+    let mut i = from;
+    while i < octets.len() {
+        all = all | octets[i];
+        i += 1;
+    }
+    all
+}
+
 // Whether every octet is zero.
 pub fn no_octet(octets: &[u8]) -> bool
     ensures { λ r. ⌜ r ≡ zeros (now (octets .entry)) ⌝ }
 {
-    let mut i: usize = 0;
-    while i < octets.len() {
-        if octets[i] != 0 {
-            return false;
-        }
-        i += 1;
-    }
-    true
+    or_from(octets, 0) == 0
 }
 
 // Whether every word is zero.
 pub fn no_word(words: &[u16]) -> bool
     ensures { λ r. ⌜ r ≡ zeros (now (words .entry)) ⌝ }
 {
+    let mut all: u16 = 0;
     let mut i: usize = 0;
     while i < words.len() {
-        if words[i] != 0 {
-            return false;
-        }
+        all = all | words[i];
         i += 1;
     }
-    true
+    all == 0
 }
 
 // Zeroes all octets.

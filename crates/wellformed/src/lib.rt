@@ -12,26 +12,11 @@ ghost use Prim.Native.Nat.{ℕ};
 ghost use mathlib.Core.Path.{_≡_};
 ghost use mathlib.Core.Bool.{Bool, true, false, _&&_};
 ghost use mathlib.Core.List.{List};
-ghost use lib.Dec.{eqb};
-ghost use lib.ListN.{drop};
 ghost use Rattle.bits.specs.Format.{basic};
 ghost use Rattle.filter.specs.declared.Memory.{Memory};
 ghost use Rattle.board.specs.declared.Counts.{Counts};
 ghost use Rattle.board.specs.Malformed.{zeroPast, within, inRange, lineOut, counterOut, countOut, monitorOut, transmitterOut, openMalformed, isOff, numbers, isNew, malformed};
 ghost use Rattle.memory.specs.Lent.{zeros};
-
-// All octets from a place on, or-ed: 0 if all are zero. A loop without an exit compiles to many octets a step.
-fn or_from(octets: &[u8], from: usize) -> u8
-    ensures { λ r. ⌜ eqb r 0 ≡ zeroPast 0 (drop from (now (octets .entry))) ⌝ }
-{
-    let mut all: u8 = 0;
-    let mut i = from;
-    while i < octets.len() {
-        all = all | octets[i];
-        i += 1;
-    }
-    all
-}
 
 // Whether octets are zero past their first bits.
 fn zero_past(octets: &[u8], bits: u16) -> bool
@@ -41,7 +26,7 @@ fn zero_past(octets: &[u8], bits: u16) -> bool
     if at >= octets.len() {
         return true;
     }
-    ((octets[at] >> (bits % 8)) | or_from(octets, at + 1)) == 0
+    ((octets[at] >> (bits % 8)) | memory::or_from(octets, at + 1)) == 0
 }
 
 // Whether a number is one of a range.

@@ -1,29 +1,29 @@
--- `memory::no_word` meets its contract: what is left to look at decides.
+-- `memory::no_word` meets its contract: the or so far and what is left decide.
 use Prim.Native.Nat.{_-_}
+use mathlib.Core.Path.{_≡_, refl, _∙_}
+use mathlib.Core.Bool.{_&&_}
 use native.Mathlib.Omega.{arith}
-use borrow.Author.Needs.{needs}
-use lib.ListN.{length}
-use Rattle.memory.proofs.Loops.{Looked, look-start, look-more, look-stop, look-end}
+use lib.Dec.{eqb}
+use lib.ListN.{length, drop}
+use Rattle.memory.specs.Lent.{zeros}
+use Rattle.memory.proofs.Loops.{or-next, or-ends}
 use Rattle.memory.proofs.no_word.Statement.{statement}
 use Rattle.memory.proofs.no_word.Tie as tie
 
 abbrev Inv-loop : tie.InvT-loop
-Inv-loop words i₀ i = Looked words i
+Inv-loop words all₀ i₀ all i = eqb all 0 && zeros (drop i words) ≡ zeros words
 
 abbrev μ-loop : tie.MeasureT-loop
-μ-loop words i₀ i = length words - i
+μ-loop words all₀ i₀ all i = length words - i
 
 loop-holds : tie.Need-loop-holds Inv-loop μ-loop
-loop-holds c = look-start _
+loop-holds c = refl
 
-mul-if1 : tie.Need-mul-if1 Inv-loop μ-loop
-mul-if1 c = search needs
+mul-all : tie.Need-mul-all Inv-loop μ-loop
+mul-all c = omega arith
 
-shared-slice-read-if1 : tie.Need-shared-slice-read-if1 Inv-loop μ-loop
-shared-slice-read-if1 c = omega arith
-
-returns : tie.Need-returns Inv-loop μ-loop
-returns c = let t = c .before .before in look-stop (t .before .loop .inv) (t .loop-test .taken) (c .if1 .taken)
+shared-slice-read-all : tie.Need-shared-slice-read-all Inv-loop μ-loop
+shared-slice-read-all c = omega arith
 
 add-i : tie.Need-add-i Inv-loop μ-loop
 add-i c = omega arith
@@ -32,22 +32,16 @@ loop-less : tie.Need-loop-less Inv-loop μ-loop
 loop-less c = omega arith
 
 loop-again : tie.Need-loop-again Inv-loop μ-loop
-loop-again c = let t = c .before .before in look-more (t .before .loop .inv) (t .loop-test .taken) (c .if1 .left)
+loop-again c =
+    let l = c .before .before in
+    or-next (l .before .args .words .now) (l .loop .i) (l .loop .all) (c .before .loop-test .taken) ∙ l .loop .inv
 
-returns-2 : tie.Need-returns-2 Inv-loop μ-loop
-returns-2 c = look-end (c .before .loop .inv) (c .loop-test .left)
+returns : tie.Need-returns Inv-loop μ-loop
+returns c =
+    let l = c .before in
+    or-ends (l .before .args .words .now) (l .loop .i) (l .loop .all) (c .loop-test .left) ∙ l .loop .inv
 
 pub no-word-spec : {M : Type 1} → statement M
 no-word-spec =
     tie.close
-    (tie.spec
-    Inv-loop
-    μ-loop
-    loop-holds
-    mul-if1
-    shared-slice-read-if1
-    returns
-    add-i
-    loop-less
-    loop-again
-    returns-2)
+    (tie.spec Inv-loop μ-loop loop-holds mul-all shared-slice-read-all add-i loop-less loop-again returns)

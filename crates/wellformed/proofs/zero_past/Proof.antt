@@ -1,5 +1,4 @@
 -- `wellformed::zero_past` meets its contract: the octet that the first bits end in, or-ed with those after it, decides.
-use Prim.Native.Nat.{_/_}
 use mathlib.Core.Path.{sym}
 use native.Mathlib.Omega.{arith}
 use borrow.Author.Needs.{needs}
@@ -32,7 +31,7 @@ returns-2 : tie.Need-returns-2
 returns-2 c =
     let k = c .before in
     let s = k .before .before .before .args in
-    or-decides (s .octets .now) (s .bits) (c .or-from .result) (k .before .if1 .left) (omega (arith, k .shared-slice-known2 .given (s .bits / 8))) (c .or-from .ensures)
+    or-decides (s .octets .now) (s .bits) (c .or-from .result) (k .before .if1 .left) (λ i. omega (arith, k .shared-slice-known2 .given i)) (c .or-from .ensures)
 
 pub zero-past-spec : {M : Type 1} → statement M
 zero-past-spec =

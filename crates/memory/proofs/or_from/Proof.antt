@@ -1,17 +1,17 @@
--- `wellformed::or_from` meets its contract: the or so far and what is left decide.
+-- `memory::or_from` meets its contract: the or so far and what is left decide.
 use Prim.Native.Nat.{_-_}
 use mathlib.Core.Path.{_≡_, refl, _∙_}
 use mathlib.Core.Bool.{_&&_}
 use native.Mathlib.Omega.{arith}
 use lib.Dec.{eqb}
 use lib.ListN.{length, drop}
-use Rattle.board.specs.Malformed.{zeroPast}
-use Rattle.board.proofs.Past.{or-next, or-ends}
-use Rattle.wellformed.proofs.or_from.Statement.{statement}
-use Rattle.wellformed.proofs.or_from.Tie as tie
+use Rattle.memory.specs.Lent.{zeros}
+use Rattle.memory.proofs.Loops.{or-next, or-ends}
+use Rattle.memory.proofs.or_from.Statement.{statement}
+use Rattle.memory.proofs.or_from.Tie as tie
 
 abbrev Inv-loop : tie.InvT-loop
-Inv-loop octets from all₀ i₀ all i = eqb all 0 && zeroPast 0 (drop i octets) ≡ zeroPast 0 (drop from octets)
+Inv-loop octets from all₀ i₀ all i = eqb all 0 && zeros (drop i octets) ≡ zeros (drop from octets)
 
 abbrev μ-loop : tie.MeasureT-loop
 μ-loop octets from all₀ i₀ all i = length octets - i
@@ -31,7 +31,7 @@ loop-less c = omega arith
 loop-again : tie.Need-loop-again Inv-loop μ-loop
 loop-again c =
     let l = c .before .before in
-    or-next (l .before .args .octets .now) (l .loop .i) (l .loop .all) (c .before .loop-test .taken) (omega (arith, c .shared-slice-known .given (l .loop .i))) ∙ l .loop .inv
+    or-next (l .before .args .octets .now) (l .loop .i) (l .loop .all) (c .before .loop-test .taken) ∙ l .loop .inv
 
 returns : tie.Need-returns Inv-loop μ-loop
 returns c =
