@@ -71,9 +71,9 @@ module _ (l : Link) (s : Settings) (pool descriptors : List ℕ) where
     unfolding openAnswer
     open-refused z = ap (λ (k : ℕ). outcome k l pool descriptors) e ∙ sym (refused _ _ _ (λ q. z (e ∙ q)))
 
-    pub open-done : (r : Link) (d : List ℕ) → n ≡ 0 → r ≡ openedLink s → d ≡ emptyDescriptors (s .k) → outcome 0 r pool d ≡ openAnswer l s pool descriptors
+    pub open-done : (r : Link) (d : List ℕ) → n ≡ 0 → r ≡ openedLink s → d ≡ emptyDescriptors (s .k) → outcome n r pool d ≡ openAnswer l s pool descriptors
     unfolding openAnswer
-    open-done r d z er ed = ap₂ (λ (x : Link) (y : List ℕ). outcome 0 x pool y) er ed ∙ sym (done _ _ _ (sym e ∙ z))
+    open-done r d z er ed = (λ i. outcome (z i) (er i) pool (ed i)) ∙ sym (done _ _ _ (sym e ∙ z))
 
 -- ---- command
 -- an answer of number and link, by the number m that the definition has
@@ -137,6 +137,6 @@ module _ (l : Link) (pool descriptors : List ℕ) (slot : ℕ) where
     hand-refused z = ap (λ (k : ℕ). outcome k l pool descriptors) e ∙ sym (refused _ _ _ (λ q. z (e ∙ q)))
 
     pub hand-done : (p d : List ℕ) → n ≡ 0 → p ≡ withSlot basic pool slot (emptySlot basic) → d ≡ withDescriptor descriptors slot (statusWord statuses.Empty) 0
-        → outcome 0 l p d ≡ handAnswer l pool descriptors slot
+        → outcome n l p d ≡ handAnswer l pool descriptors slot
     unfolding handAnswer
-    hand-done p d z ep ed = ap₂ (λ (x y : List ℕ). outcome 0 l x y) ep ed ∙ sym (done _ _ _ (sym e ∙ z))
+    hand-done p d z ep ed = (λ i. outcome (z i) l (ep i) (ed i)) ∙ sym (done _ _ _ (sym e ∙ z))

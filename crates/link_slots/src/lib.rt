@@ -2,15 +2,21 @@
 use board::Link;
 use link::Answer;
 ghost use mathlib.Core.Path.{_≡_};
+ghost use Rattle.board.specs.Malformed as Malformed;
 ghost use Rattle.link.specs.Refusals.{readNumber};
 ghost use Rattle.link.specs.Calls.{readPart, handAnswer};
 
-// Read's companion: the number that read and hand back answer.
-pub fn read_number(link: Link, pool: &[u8], descriptors: &[u16], slot: u16) -> u8
-    ensures { λ r. ⌜ r ≡ readNumber link (now (pool .entry)) (now (descriptors .entry)) slot ⌝ }
+// The number that read and hand back answer on a link that is malformed or not, open or not, and has k slots.
+fn number_of(
+    malformed: bool,
+    opened: bool,
+    k: u16,
+    pool: &[u8],
+    descriptors: &[u16],
+    slot: u16,
+) -> u8
+    ensures { λ r. ⌜ ((l : Link) → malformed ≡ Malformed.malformed l → opened ≡ l .opened → k ≡ l .settings .k → r ≡ readNumber l (now (pool .entry)) (now (descriptors .entry)) slot) ⌝ }
 {
-    let malformed = wellformed::is_malformed(link);
-    let k = link.settings.k;
     let fits = link::fits_memory(k, pool, descriptors);
     let at = 2 * (slot as usize);
     let status = memory::word_at(descriptors, at);
@@ -21,15 +27,55 @@ pub fn read_number(link: Link, pool: &[u8], descriptors: &[u16], slot: u16) -> u
     let thirteen = link::refuse(!filled | (Link::MOST_LONGEST < count), 13, 0);
     let twelve = link::refuse(k <= slot, 12, thirteen);
     let five = link::refuse(!fits, 5, twelve);
-    let two = link::refuse(!link.opened, 2, five);
+    let two = link::refuse(!opened, 2, five);
     link::refuse(malformed, 1, two)
+}
+
+// Read's companion: the number that read and hand back answer.
+pub fn read_number(link: Link, pool: &[u8], descriptors: &[u16], slot: u16) -> u8
+    ensures { λ r. ⌜ r ≡ readNumber link (now (pool .entry)) (now (descriptors .entry)) slot ⌝ }
+{
+    let malformed = wellformed::is_malformed(
+        link.opened,
+        link.settings,
+        link.line.state,
+        &link.line.area,
+        link.units,
+        link.supervision,
+        link.transmitter,
+    );
+    number_of(
+        malformed,
+        link.opened,
+        link.settings.k,
+        pool,
+        descriptors,
+        slot,
+    )
 }
 
 // The unit in a slot, as a part of the pool; an empty part where the call is refused.
 pub fn read<'a, 'b>(link: Link, pool: &'a [u8], descriptors: &'b [u16], slot: u16) -> &'a [u8]
     ensures { λ r. ⌜ now r ≡ readPart link (now (pool .entry)) (now (descriptors .entry)) slot ⌝ }
 {
-    if read_number(link, pool, descriptors, slot) != 0 {
+    let malformed = wellformed::is_malformed(
+        link.opened,
+        link.settings,
+        link.line.state,
+        &link.line.area,
+        link.units,
+        link.supervision,
+        link.transmitter,
+    );
+    let n = number_of(
+        malformed,
+        link.opened,
+        link.settings.k,
+        pool,
+        descriptors,
+        slot,
+    );
+    if n != 0 {
         return &pool[0..0];
     }
     let from = Link::SLOT * (slot as usize);
@@ -42,16 +88,28 @@ pub fn read<'a, 'b>(link: Link, pool: &'a [u8], descriptors: &'b [u16], slot: u1
 pub fn hand_back(link: Link, pool: &mut [u8], descriptors: &mut [u16], slot: u16) -> Answer
     ensures { λ r. ⌜ record { number = r .number; link = r .link; pool = now (pool .exit); descriptors = now (descriptors .exit) } ≡ handAnswer link (now (pool .entry)) (now (descriptors .entry)) slot ⌝ }
 {
-    let n = read_number(link, &*pool, &*descriptors, slot);
-    if n != 0 {
-        return Answer {
-            number: n,
-            link: link,
-        };
+    let malformed = wellformed::is_malformed(
+        link.opened,
+        link.settings,
+        link.line.state,
+        &link.line.area,
+        link.units,
+        link.supervision,
+        link.transmitter,
+    );
+    let n = number_of(
+        malformed,
+        link.opened,
+        link.settings.k,
+        &*pool,
+        &*descriptors,
+        slot,
+    );
+    if n == 0 {
+        memory::release(pool, descriptors, slot);
     }
-    memory::release(pool, descriptors, slot);
     Answer {
-        number: 0,
+        number: n,
         link: link,
     }
 }

@@ -1,21 +1,29 @@
 -- `link_slots::read` meets its contract: refused with an empty part, or the unit.
+use Rattle.link.specs.Refusals.{readNumber}
 use Rattle.link.proofs.Answers.{Readable, readable, read-refused, read-done}
 use Rattle.memory.specs.Lent.{lengthOf}
 use native.Mathlib.Omega.{arith}
 use Prim.Native.Nat.{_*_}
-use mathlib.Core.Path.{refl, sym, _∙_}
+use mathlib.Core.Path.{_≡_, refl, sym, _∙_}
 use borrow.Author.Needs.{needs}
 use Rattle.link_slots.proofs.read.Statement.{statement}
 use Rattle.link_slots.proofs.read.Tie as tie
 
--- past the refusals, the slot can be read
-ok : (c : tie.Else1) → let s = c .before .before .before .before .args in Readable (s .link) (s .pool .now) (s .descriptors .now) (s .slot)
-ok c =
-    let s = c .before .before .before .before .args in
-    readable (s .link) (s .pool .now) (s .descriptors .now) (s .slot) (sym (c .before .read-number .ensures) ∙ c .if1 .left)
+-- the number is that of the definition
+number-is : (c : tie.After-number-of) → let s = c .before .before .before .before .before .before .before .before .before .before .before .args in c .number-of .result ≡ readNumber (s .t1) (s .pool .now) (s .descriptors .now) (s .slot)
+number-is c = c .number-of .ensures (c .before .before .before .before .before .before .before .before .before .before .before .args .t1) (c .before .is-malformed .ensures) refl refl
 
-read-number-requires : tie.Need-read-number-requires
-read-number-requires c κs = search needs
+-- past the refusals, the slot can be read
+ok : (c : tie.Else1) → let s = c .before .before .before .before .before .before .before .before .before .before .before .before .args in Readable (s .t1) (s .pool .now) (s .descriptors .now) (s .slot)
+ok c =
+    let s = c .before .before .before .before .before .before .before .before .before .before .before .before .args in
+    readable (s .t1) (s .pool .now) (s .descriptors .now) (s .slot) (sym (number-is (c .before)) ∙ c .if1 .left)
+
+is-malformed-requires : tie.Need-is-malformed-requires
+is-malformed-requires c κs = search needs
+
+number-of-requires : tie.Need-number-of-requires
+number-of-requires c κs = search needs
 
 sub-result : tie.Need-sub-result
 sub-result c = search needs
@@ -29,8 +37,8 @@ part-result-end c = search needs
 returns : tie.Need-returns
 returns c =
     let d = c .before .before in
-    let s = d .before .before .before .args in
-    read-refused (s .link) (s .pool .now) (s .descriptors .now) (s .slot) (d .read-number .result) (d .read-number .ensures) (c .before .if1 .taken)
+    let s = d .before .before .before .before .before .before .before .before .before .before .before .args in
+    read-refused (s .t1) (s .pool .now) (s .descriptors .now) (s .slot) (d .number-of .result) (number-is d) (c .before .if1 .taken)
 
 mul-from : tie.Need-mul-from
 mul-from c = search needs
@@ -73,14 +81,15 @@ part-result-end-2 c =
 returns-2 : tie.Need-returns-2
 returns-2 c =
     let e = c .before .before in
-    let s = e .before .before .before .before .args in
-    read-done (s .link) (s .pool .now) (s .descriptors .now) (s .slot) (e .before .read-number .result) (e .before .read-number .ensures) (280 * s .slot) (lengthOf (s .descriptors .now) (s .slot)) (e .if1 .left) refl refl
+    let s = e .before .before .before .before .before .before .before .before .before .before .before .before .args in
+    read-done (s .t1) (s .pool .now) (s .descriptors .now) (s .slot) (e .before .number-of .result) (number-is (e .before)) (280 * s .slot) (lengthOf (s .descriptors .now) (s .slot)) (e .if1 .left) refl refl
 
 pub read-spec : {M : Type 1} → statement M
 read-spec =
     tie.close
     (tie.spec
-    read-number-requires
+    is-malformed-requires
+    number-of-requires
     sub-result
     part-result-start
     part-result-end
