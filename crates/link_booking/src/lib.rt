@@ -4,14 +4,20 @@ use board::Link;
 use board::Settings;
 use link::Answer;
 ghost use mathlib.Core.Path.{_≡_};
+ghost use Rattle.board.specs.Malformed as Malformed;
 ghost use Rattle.link.specs.Refusals.{openNumber};
 ghost use Rattle.link.specs.Calls.{openedLink, openAnswer, wipeAnswer};
 
-// The number that open answers.
-fn open_number(link: Link, settings: Settings, pool: &[u8], descriptors: &[u16]) -> u8
-    ensures { λ r. ⌜ r ≡ openNumber link settings (now (pool .entry)) (now (descriptors .entry)) ⌝ }
+// The number that open answers on a link that is malformed or not, and open or not.
+fn open_number(
+    malformed: bool,
+    opened: bool,
+    settings: Settings,
+    pool: &[u8],
+    descriptors: &[u16],
+) -> u8
+    ensures { λ r. ⌜ ((l : Link) → malformed ≡ Malformed.malformed l → opened ≡ l .opened → r ≡ openNumber l settings (now (pool .entry)) (now (descriptors .entry))) ⌝ }
 {
-    let malformed = wellformed::is_malformed(link);
     let range = wellformed::in_range(settings);
     let fits = link::fits_memory(settings.k, pool, descriptors);
     let octets = memory::no_octet(pool);
@@ -19,7 +25,7 @@ fn open_number(link: Link, settings: Settings, pool: &[u8], descriptors: &[u16])
     let six = link::refuse(!(octets & words), 6, 0);
     let five = link::refuse(!fits, 5, six);
     let four = link::refuse(!range, 4, five);
-    let three = link::refuse(link.opened, 3, four);
+    let three = link::refuse(opened, 3, four);
     link::refuse(malformed, 1, three)
 }
 
@@ -44,17 +50,22 @@ fn opened_link(settings: Settings) -> Link
 pub fn open(link: Link, settings: Settings, pool: &mut [u8], descriptors: &mut [u16]) -> Answer
     ensures { λ r. ⌜ record { number = r .number; link = r .link; pool = now (pool .exit); descriptors = now (descriptors .exit) } ≡ openAnswer link settings (now (pool .entry)) (now (descriptors .entry)) ⌝ }
 {
-    let n = open_number(link, settings, &*pool, &*descriptors);
-    if n != 0 {
-        return Answer {
-            number: n,
-            link: link,
-        };
+    let malformed = wellformed::is_malformed(
+        link.opened,
+        link.settings,
+        link.line.state,
+        &link.line.area,
+        link.units,
+        link.supervision,
+        link.transmitter,
+    );
+    let n = open_number(malformed, link.opened, settings, &*pool, &*descriptors);
+    let mut l = link;
+    if n == 0 {
+        memory::mark_empty(descriptors, settings.k);
+        l = opened_link(settings);
     }
-    let k = settings.k;
-    memory::mark_empty(descriptors, k);
-    let l = opened_link(settings);
-    Answer { number: 0, link: l }
+    Answer { number: n, link: l }
 }
 
 // Zeroes all of both areas, whatever they are, and gives the new link. It is never refused.

@@ -4,9 +4,6 @@ use borrow.Author.Needs.{needs}
 use Rattle.link_booking.proofs.open_number.Statement.{statement}
 use Rattle.link_booking.proofs.open_number.Tie as tie
 
-is-malformed-requires : tie.Need-is-malformed-requires
-is-malformed-requires c κs = search needs
-
 in-range-requires : tie.Need-in-range-requires
 in-range-requires c κs = search needs
 
@@ -36,13 +33,14 @@ refuse-requires-5 c κs = search needs
 
 returns : tie.Need-returns
 unfolding openNumber first
-returns c = rw (c .refuse5 .ensures, c .before .refuse4 .ensures, c .before .before .refuse3 .ensures, c .before .before .before .refuse2 .ensures, c .before .before .before .before .refuse .ensures, c .before .before .before .before .before .no-word .ensures, c .before .before .before .before .before .before .no-octet .ensures, c .before .before .before .before .before .before .before .fits-memory .ensures, c .before .before .before .before .before .before .before .before .in-range .ensures, c .before .before .before .before .before .before .before .before .before .is-malformed .ensures)
+returns c l m o =
+    let w = c .before .before .before .before .before in
+    rw (c .refuse5 .ensures, c .before .refuse4 .ensures, c .before .before .refuse3 .ensures, c .before .before .before .refuse2 .ensures, c .before .before .before .before .refuse .ensures, w .no-word .ensures, w .before .no-octet .ensures, w .before .before .fits-memory .ensures, w .before .before .before .in-range .ensures, m, o)
 
 pub open-number-spec : {M : Type 1} → statement M
 open-number-spec =
     tie.close
     (tie.spec
-    is-malformed-requires
     in-range-requires
     fits-memory-requires
     no-octet-requires
