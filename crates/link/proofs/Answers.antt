@@ -76,15 +76,15 @@ module _ (l : Link) (s : Settings) (pool descriptors : List ℕ) where
     open-done r d z er ed = (λ i. outcome (z i) (er i) pool (ed i)) ∙ sym (done _ _ _ (sym e ∙ z))
 
 -- ---- command
--- an answer of number and link, by the number m that the definition has
-module _ (n m : ℕ) (e : n ≡ m) (l : Link) where
-  pub number-refused : (yes-done : Answer) → (n ≡ 0 → ⊥)
-      → _≡_ {A = Answer} (record { number = n; link = l }) (cond (eqb m 0) yes-done (record { number = m; link = l }))
-  number-refused yes-done z = ap {B = Answer} (λ (k : ℕ). record { number = k; link = l }) e ∙ sym (refused _ _ _ (λ q. z (e ∙ q)))
+-- an answer of number and link r, by the number m that the definition has
+module _ (n m : ℕ) (e : n ≡ m) (l r : Link) where
+  pub number-refused : (yes-done : Answer) → (n ≡ 0 → ⊥) → r ≡ l
+      → _≡_ {A = Answer} (record { number = n; link = r }) (cond (eqb m 0) yes-done (record { number = m; link = l }))
+  number-refused yes-done z er = ap₂ {C = Answer} (λ (k : ℕ) (x : Link). record { number = k; link = x }) e er ∙ sym (refused _ _ _ (λ q. z (e ∙ q)))
 
-  pub number-done : {r r′ : Link} → n ≡ 0 → r ≡ r′
-      → _≡_ {A = Answer} (record { number = 0; link = r }) (cond (eqb m 0) (record { number = 0; link = r′ }) (record { number = m; link = l }))
-  number-done z er = ap {B = Answer} (λ (x : Link). record { number = 0; link = x }) er ∙ sym (done _ _ _ (sym e ∙ z))
+  pub number-done : {r′ : Link} → n ≡ 0 → r ≡ r′
+      → _≡_ {A = Answer} (record { number = n; link = r }) (cond (eqb m 0) (record { number = 0; link = r′ }) (record { number = m; link = l }))
+  number-done z er = ap₂ {C = Answer} (λ (k : ℕ) (x : Link). record { number = k; link = x }) z er ∙ sym (done _ _ _ (sym e ∙ z))
 
 -- ---- read and hand back
 pub record Readable (l : Link) (pool descriptors : List ℕ) (slot : ℕ) : Type 0 where

@@ -1,11 +1,12 @@
 // Commands: the monitors, the filter, octet counting.
 use board::Link;
+use board::UnitState;
 use filter::Memory;
 use link::Answer;
 use link::CommandCode;
 use monitor::Monitor;
 ghost use mathlib.Core.Path.{_≡_};
-ghost use Rattle.board.specs.With.{withMonitor};
+ghost use Rattle.board.specs.Malformed as Malformed;
 ghost use Rattle.link.specs.Refusals.{commandNumber};
 ghost use Rattle.link.specs.Commands.{commandOf, isUnknown, obeyed};
 ghost use Rattle.link.specs.Calls.{commandAnswer};
@@ -46,62 +47,53 @@ fn is_unknown(code: CommandCode) -> bool
     }
 }
 
-// The number that command answers.
-fn command_number(link: Link, command: u16) -> u8
-    ensures { λ r. ⌜ r ≡ commandNumber link command ⌝ }
+// The number that command answers on a link that is malformed or not, and open or not.
+fn command_number(malformed: bool, opened: bool, command: u16) -> u8
+    ensures { λ r. ⌜ ((l : Link) → malformed ≡ Malformed.malformed l → opened ≡ l .opened → r ≡ commandNumber l command) ⌝ }
 {
-    let malformed = wellformed::is_malformed(link);
     let code = command_of(command);
     let unknown = is_unknown(code);
     let eleven = link::refuse(unknown, 11, 0);
-    let two = link::refuse(!link.opened, 2, eleven);
+    let two = link::refuse(!opened, 2, eleven);
     link::refuse(malformed, 1, two)
 }
 
-// The link with another monitor.
-fn with_monitor(link: Link, monitor: Monitor) -> Link
-    ensures { λ r. ⌜ r ≡ withMonitor link monitor ⌝ }
+// What a command makes of a link's monitor.
+fn obey_monitor(m: Monitor, code: CommandCode) -> Monitor
+    ensures { λ r. ⌜ ((l : Link) → m ≡ l .supervision .monitor → r ≡ obeyed code l .supervision .monitor) ⌝ }
 {
-    let mut l = link;
-    let mut v = l.supervision;
-    v.monitor = monitor;
-    l.supervision = v;
-    l
-}
-
-// What a command makes of a link.
-fn obey(link: Link, code: CommandCode) -> Link
-    ensures { λ r. ⌜ r ≡ obeyed code link ⌝ }
-{
-    let mut l = link;
     match code {
         CommandCode::MonitorOff => {
-            let m = l.supervision.monitor;
             let off = m.stop();
-            return with_monitor(l, off);
+            return off;
         }
-        CommandCode::StartFailure => {
-            let failure = Monitor::failure();
-            return with_monitor(l, failure);
-        }
-        CommandCode::StartAlignment => {
-            let alignment = Monitor::alignment();
-            return with_monitor(l, alignment);
-        }
+        CommandCode::StartFailure => return Monitor::failure(),
+        CommandCode::StartAlignment => return Monitor::alignment(),
+        CommandCode::MustHandOver => return m,
+        CommandCode::CountOctets => return m,
+        CommandCode::Unknown => return m,
+    }
+}
+
+// What a command makes of what deals with a link's units.
+fn obey_units(units: UnitState, code: CommandCode) -> UnitState
+    ensures { λ r. ⌜ ((l : Link) → units ≡ l .units → r ≡ obeyed code l .units) ⌝ }
+{
+    let mut u = units;
+    match code {
+        CommandCode::MonitorOff => return u,
+        CommandCode::StartFailure => return u,
+        CommandCode::StartAlignment => return u,
         CommandCode::MustHandOver => {
             let empty = Memory::empty();
-            let mut u = l.units;
             u.memory = empty;
-            l.units = u;
-            return l;
+            return u;
         }
         CommandCode::CountOctets => {
-            let mut u = l.units;
             u.counting.on = true;
-            l.units = u;
-            return l;
+            return u;
         }
-        CommandCode::Unknown => return l,
+        CommandCode::Unknown => return u,
     }
 }
 
@@ -109,14 +101,36 @@ fn obey(link: Link, code: CommandCode) -> Link
 pub fn command(link: Link, command: u16) -> Answer
     ensures { λ r. ⌜ r ≡ commandAnswer link command ⌝ }
 {
-    let n = command_number(link, command);
-    if n != 0 {
-        return Answer {
-            number: n,
-            link: link,
-        };
+    let malformed = wellformed::is_malformed(
+        link.opened,
+        link.settings,
+        link.line.state,
+        &link.line.area,
+        link.units,
+        link.supervision,
+        link.transmitter,
+    );
+    let n = command_number(malformed, link.opened, command);
+    let mut v = link.supervision;
+    let mut u = link.units;
+    if n == 0 {
+        let code = command_of(command);
+        let m = obey_monitor(v.monitor, code);
+        v.monitor = m;
+        u = obey_units(u, code);
     }
-    let code = command_of(command);
-    let l = obey(link, code);
-    Answer { number: 0, link: l }
+    let settings = link.settings;
+    let line = link.line;
+    let transmitter = link.transmitter;
+    Answer {
+        number: n,
+        link: Link {
+            opened: link.opened,
+            settings: settings,
+            line: line,
+            units: u,
+            supervision: v,
+            transmitter: transmitter,
+        },
+    }
 }

@@ -4,9 +4,6 @@ use borrow.Author.Needs.{needs}
 use Rattle.link_commands.proofs.clearing.clear_number.Statement.{statement}
 use Rattle.link_commands.proofs.clearing.clear_number.Tie as tie
 
-is-malformed-requires : tie.Need-is-malformed-requires
-is-malformed-requires c κs = search needs
-
 refuse-requires : tie.Need-refuse-requires
 refuse-requires c κs = search needs
 
@@ -15,8 +12,7 @@ refuse-requires-2 c κs = search needs
 
 returns : tie.Need-returns
 unfolding clearNumber first
-returns c = rw (c .refuse2 .ensures, c .before .refuse .ensures, c .before .before .before .is-malformed .ensures)
+returns c l em eo = rw (c .refuse2 .ensures, c .before .refuse .ensures, em, eo)
 
 pub clear-number-spec : {M : Type 1} → statement M
-clear-number-spec =
-    tie.close (tie.spec is-malformed-requires refuse-requires refuse-requires-2 returns)
+clear-number-spec = tie.close (tie.spec refuse-requires refuse-requires-2 returns)

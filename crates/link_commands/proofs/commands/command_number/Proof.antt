@@ -4,9 +4,6 @@ use borrow.Author.Needs.{needs}
 use Rattle.link_commands.proofs.commands.command_number.Statement.{statement}
 use Rattle.link_commands.proofs.commands.command_number.Tie as tie
 
-is-malformed-requires : tie.Need-is-malformed-requires
-is-malformed-requires c κs = search needs
-
 command-of-requires : tie.Need-command-of-requires
 command-of-requires c κs = search needs
 
@@ -24,16 +21,14 @@ refuse-requires-3 c κs = search needs
 
 returns : tie.Need-returns
 unfolding commandNumber first
-returns c =
-    let e = c .before .before in
-    let u = e .before in
-    rw (c .refuse3 .ensures, c .before .refuse2 .ensures, e .before .refuse .ensures, u .before .is-unknown .ensures, u .before .before .command-of .ensures, u .before .before .before .is-malformed .ensures)
+returns c l em eo =
+    let u = c .before .before in
+    rw (c .refuse3 .ensures, c .before .refuse2 .ensures, u .refuse .ensures, u .before .is-unknown .ensures, u .before .before .command-of .ensures, em, eo)
 
 pub command-number-spec : {M : Type 1} → statement M
 command-number-spec =
     tie.close
     (tie.spec
-    is-malformed-requires
     command-of-requires
     is-unknown-requires
     refuse-requires

@@ -1,0 +1,2 @@
+-- How a command is obeyed part by part.
+pub mod Obeying
