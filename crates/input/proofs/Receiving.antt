@@ -1,6 +1,6 @@
 -- How receive's answer is met: refused, or the octets are taken; and what no fault says.
-use Prim.Native.Nat.{ℕ, _*_, _/_, _≤_}
-use mathlib.Core.Path.{_≡_, refl, sym, ap, _∙_}
+use Prim.Native.Nat.{ℕ, _+_, _*_, _/_, _≤_}
+use mathlib.Core.Path.{_≡_, refl, sym, ap, subst, _∙_}
 use mathlib.Core.Bool.{Bool, true, false}
 use mathlib.Core.List.{List}
 use native.Mathlib.Nat.{zero-add}
@@ -8,12 +8,13 @@ use native.Mathlib.Omega.{arith}
 use lib.Dec.{ltb}
 use lib.ListN.{length, take}
 use borrow.Author.Tests.{eqb-true, ltb-true, ltb-false, lt-ltb, le-ltb, not-false}
-use Rattle.board.specs.Limits.{recordRoom}
+use Rattle.board.specs.Limits.{recordOctets, recordRoom}
 use Rattle.bits.specs.Octets.{Octets, lineBits, packed}
 use Rattle.framing.specs.Delimitation.{Receiver}
 use Rattle.framing.specs.Representation.{decode, encode, encodeArea}
 use Rattle.framing.specs.InnerReading.{wellFormed}
 use Rattle.framing.proofs.Encoding.{encodes-back}
+use Rattle.board.specs.declared.Gathering.{Gathering}
 use Rattle.board.specs.declared.Link.{Link}
 use Rattle.board.specs.With.{withReception}
 use Rattle.board.proofs.Ranges.{well-formed}
@@ -22,6 +23,7 @@ use Rattle.board.specs.InnerRanges.{SettingsInRange, WellFormed}
 use Rattle.board.proofs.Past.{past-holds}
 use Rattle.units.specs.Indications.{lineReceiver}
 use Rattle.reception.specs.declared.Passed.{Passed}
+use Rattle.indications.specs.declared.Progress.{Progress}
 use Rattle.indications.specs.InnerWriting.{CallState, holding, indicationsDone}
 use Rattle.reception.specs.Line.{boardAfter, lineHappenings, lineRecords}
 use Rattle.reception.specs.InnerWriting.{StateInRange, LineTaken}
@@ -121,21 +123,60 @@ module _ (l : Link) (octets pool descriptors records : List ℕ) where
         records = w i .out;
       }
 
-  module _ (n : ℕ) (e : n ≡ receiveNumber l octets pool descriptors records) where
-    pub receive-refused : (n ≡ 0 → ⊥)
-        → record { number = n; link = l; count = 0; pool = pool; descriptors = descriptors; records = records } ≡ receiveAnswer l octets pool descriptors records
-    unfolding receiveAnswer
-    receive-refused z =
-        ap {B = ReceiveOutcome} (λ (k : ℕ). record { number = k; link = l; count = 0; pool = pool; descriptors = descriptors; records = records }) e
-        ∙ sym (refused _ _ _ (λ q. z (e ∙ q)))
+  -- ---- the code of a call: n is its number, and p what line octets start from
+  module _ (n : ℕ) (e : n ≡ receiveNumber l octets pool descriptors records) (p : Progress) (ep : p ≡ progressOf l) where
+    -- what taking a line asks
+    pub may-take : n ≡ 0 → (length (l .line .area) ≡ 279) × Octets (l .line .area)
+        → (SettingsInRange (l .settings) × StateInRange (l .settings) (holding p pool descriptors records))
+        × (wellFormed (l .settings .m) (l .line .state) (l .line .area)
+        × (recordOctets * p .count + recordRoom * length octets ≤ length records)
+        × (length octets ≤ 1024))
+    may-take z typed =
+        let ok = receivable (sym e ∙ z) in (
+          (ok .formed .settings, subst (λ (x : Progress). StateInRange (l .settings) (holding x pool descriptors records)) (sym ep) (ready ok)),
+          (
+            held ok typed,
+            subst (λ (x : Progress). recordOctets * x .count + recordRoom * length octets ≤ length records) (sym ep) (omega (arith, ok .room)),
+            ok .few,
+          ),
+        )
 
-    pub receive-done : (p : Passed) (area′ pool′ descriptors′ records′ : List ℕ) (l′ : Link) → n ≡ 0 → l .settings .m ≤ 278
-        → LineTaken (l .settings) (l .line .state) (l .line .area) octets (holding (progressOf l) pool descriptors records) p area′ (holding (p .progress) pool′ descriptors′ records′)
-        → l′ ≡ withReception l (record { state = p .line; area = area′ }) (p .progress .units) (p .progress .supervision)
-        → record { number = 0; link = l′; count = p .progress .count; pool = pool′; descriptors = descriptors′; records = records′ }
-        ≡ receiveAnswer l octets pool descriptors records
-    unfolding receiveAnswer
-    receive-done p area′ pool′ descriptors′ records′ l′ z m t el =
-        ap {B = ReceiveOutcome}
-        (λ (x : Link). record { number = 0; link = x; count = p .progress .count; pool = pool′; descriptors = descriptors′; records = records′ }) el
-        ∙ is-received p area′ pool′ descriptors′ records′ m t ∙ sym (done _ _ _ (sym e ∙ z))
+    -- the answer: the link l′ is put together from g and q, as they are at the end
+    module _ (l′ : Link) (g : Gathering) (q : Progress) (pool′ descriptors′ records′ : List ℕ) (el : l′ ≡ withReception l g (q .units) (q .supervision)) where
+      abbrev answered : ReceiveOutcome
+      answered = record { number = n; link = l′; count = q .count; pool = pool′; descriptors = descriptors′; records = records′ }
+
+      pub receive-refused : (n ≡ 0 → ⊥) → pool′ ≡ pool → descriptors′ ≡ descriptors → records′ ≡ records → g ≡ l .line → q ≡ p
+          → answered ≡ receiveAnswer l octets pool descriptors records
+      unfolding receiveAnswer
+      receive-refused z e1 e2 e3 eg eq = same ∙ sym (refused _ _ _ (λ x. z (e ∙ x)))
+        where
+          same : answered
+              ≡ record {
+                number = receiveNumber l octets pool descriptors records;
+                link = l;
+                count = 0;
+                pool = pool;
+                descriptors = descriptors;
+                records = records;
+              }
+          same = rw (el, eg, eq, ep, e1, e2, e3, e)
+
+      pub receive-done : n ≡ 0 → (t : Passed) (area″ pool″ descriptors″ records″ : List ℕ)
+          → LineTaken (l .settings) (l .line .state) (l .line .area) octets (holding p pool descriptors records) t area″ (holding (t .progress) pool″ descriptors″ records″)
+          → pool′ ≡ pool″ → descriptors′ ≡ descriptors″ → records′ ≡ records″ → g ≡ record { state = t .line; area = area″ } → q ≡ t .progress
+          → answered ≡ receiveAnswer l octets pool descriptors records
+      unfolding receiveAnswer
+      receive-done z t area″ pool″ descriptors″ records″ taken e1 e2 e3 eg eq =
+          same ∙ is-received t area″ pool″ descriptors″ records″ (receivable (sym e ∙ z) .formed .settings .m .1) (rw ep at taken) ∙ sym (done _ _ _ (sym e ∙ z))
+        where
+          same : answered
+              ≡ record {
+                number = 0;
+                link = withReception l (record { state = t .line; area = area″ }) (t .progress .units) (t .progress .supervision);
+                count = t .progress .count;
+                pool = pool″;
+                descriptors = descriptors″;
+                records = records″;
+              }
+          same = rw (el, eg, eq, e1, e2, e3, z)

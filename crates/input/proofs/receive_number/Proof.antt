@@ -1,4 +1,4 @@
--- `link::line::receive_number` meets its contract: the faults are asked in rising number.
+-- `input::receive_number` meets its contract: the faults are asked in rising number.
 use lib.ListN.{length}
 use Rattle.link.specs.Refusals.{first}
 use Rattle.input.specs.Refusals.{receiveNumber}
@@ -6,9 +6,6 @@ use Rattle.input.proofs.Receiving.{room-for}
 use borrow.Author.Needs.{needs}
 use Rattle.input.proofs.receive_number.Statement.{statement}
 use Rattle.input.proofs.receive_number.Tie as tie
-
-is-malformed-requires : tie.Need-is-malformed-requires
-is-malformed-requires c κs = search needs
 
 fits-memory-requires : tie.Need-fits-memory-requires
 fits-memory-requires c κs = search needs
@@ -30,15 +27,15 @@ refuse-requires-5 c κs = search needs
 
 returns : tie.Need-returns
 unfolding receiveNumber first
-returns c =
-    let a = c .before .before .before .before .before .before .before .before .before .before .before .before .args in
-    rw (c .refuse5 .ensures, c .before .refuse4 .ensures, c .before .before .before .refuse3 .ensures, c .before .before .before .before .refuse2 .ensures, c .before .before .before .before .before .refuse .ensures, c .before .before .before .before .before .before .fits-memory .ensures, c .before .before .before .before .before .before .before .is-malformed .ensures, room-for (length (a .records .now)) (length (a .octets .now)))
+returns c l em eo ek =
+    let f = c .before .before .before .before .before in
+    let a = f .before .before .before .before .before .args in
+    rw (c .refuse5 .ensures, c .before .refuse4 .ensures, c .before .before .refuse3 .ensures, c .before .before .before .refuse2 .ensures, c .before .before .before .before .refuse .ensures, f .fits-memory .ensures, em, eo, ek, room-for (length (a .records .now)) (length (a .octets .now)))
 
 pub receive-number-spec : {M : Type 1} → statement M
 receive-number-spec =
     tie.close
     (tie.spec
-    is-malformed-requires
     fits-memory-requires
     refuse-requires
     refuse-requires-2
