@@ -16,38 +16,50 @@ pub fn receive_octets(
 ) -> Received
     ensures { λ r. ⌜ record { number = r .number; link = r .link; count = r .count; pool = now (pool .exit); descriptors = now (descriptors .exit); records = now (records .exit) } ≡ receiveAnswer link (now (octets .entry)) (now (pool .entry)) (now (descriptors .entry)) (now (records .entry)) ⌝ }
 {
-    let n = input::receive_number(link, octets, &*pool, &*descriptors, &*records);
-    if n != 0 {
-        return Received {
-            number: n,
-            link: link,
-            count: 0,
-        };
-    }
-    let p = input::progress_of(link);
-    let s = link.settings;
-    let mut g = link.line;
-    let state = g.state;
-    let rows = octets::row_table();
-    let table = fcs::check_table();
-    let passed = octet_reception::take_line(
-        s,
-        state,
-        p,
-        octets,
-        &mut g.area,
-        &rows,
-        pool,
-        descriptors,
-        records,
-        &table,
+    let malformed = wellformed::is_malformed(
+        link.opened,
+        link.settings,
+        link.line.state,
+        &link.line.area,
+        link.units,
+        link.supervision,
+        link.transmitter,
     );
-    let line = passed.line;
-    g.state = line;
-    let q = passed.progress;
+    let n = input::receive_number(
+        malformed,
+        link.opened,
+        link.settings.k,
+        octets,
+        &*pool,
+        &*descriptors,
+        &*records,
+    );
+    let mut g = link.line;
+    let mut q = input::progress_of(link);
+    if n == 0 {
+        let s = link.settings;
+        let state = g.state;
+        let rows = octets::row_table();
+        let table = fcs::check_table();
+        let passed = octet_reception::take_line(
+            s,
+            state,
+            q,
+            octets,
+            &mut g.area,
+            &rows,
+            pool,
+            descriptors,
+            records,
+            &table,
+        );
+        let line = passed.line;
+        g.state = line;
+        q = passed.progress;
+    }
     let l = input::link_received(link, g, q);
     Received {
-        number: 0,
+        number: n,
         link: l,
         count: q.count,
     }

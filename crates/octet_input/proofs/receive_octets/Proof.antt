@@ -1,34 +1,18 @@
 -- `octet_input::receive_octets` meets its contract, which is that of receive: only the octets are taken in another way.
-use Prim.Native.Nat.{_+_, _*_, _≤_}
-use mathlib.Core.Path.{sym, subst, _∙_}
-use native.Mathlib.Omega.{arith}
+use mathlib.Core.Path.{refl, ap, _∙_}
+use mathlib.Core.Logic.{⊎-elim}
 use lib.ListN.{length}
-use Rattle.board.specs.Limits.{recordOctets, recordRoom}
-use Rattle.indications.specs.declared.Progress.{Progress}
-use Rattle.indications.specs.InnerWriting.{holding}
-use Rattle.reception.specs.InnerWriting.{StateInRange, LineTaken}
 use Rattle.bits.proofs.Typed.{array-of-octets}
-use Rattle.input.proofs.Receiving.{receivable, ready, held, receive-refused, receive-done}
+use Rattle.input.proofs.Receiving.{may-take, receive-refused, receive-done}
 use borrow.Author.Needs.{needs}
 use Rattle.octet_input.proofs.receive_octets.Statement.{statement}
 use Rattle.octet_input.proofs.receive_octets.Tie as tie
 
+is-malformed-requires : tie.Need-is-malformed-requires
+is-malformed-requires c κs = search needs
+
 receive-number-requires : tie.Need-receive-number-requires
 receive-number-requires c κs = search needs
-
-same-length : tie.Need-same-length
-same-length c = search needs
-
-same-length-2 : tie.Need-same-length-2
-same-length-2 c = search needs
-
-same-length-3 : tie.Need-same-length-3
-same-length-3 c = search needs
-
-returns : tie.Need-returns
-returns c =
-    let a = c .before .before .before .before .before .before .before .before .before .args in
-    receive-refused (a .link) (a .octets .now) (a .pool .now) (a .descriptors .now) (a .records .now) (c .before .receive-number .result) (c .before .receive-number .ensures) (c .if1 .taken)
 
 progress-of-requires : tie.Need-progress-of-requires
 progress-of-requires c κs = search needs
@@ -41,61 +25,63 @@ check-table-requires c κs = search needs
 
 take-line-requires : tie.Need-take-line-requires
 take-line-requires c κs =
-    let s = c .before .before .before .before .before .before .before .before .before .before .before .before .before .before .before .before .before .before .before .before .before in
+    let i = c .before .before .before .before .before .before .before .before .before .before in
+    let d = i .before in
+    let n = d .before .before .receive-number in
+    let m = d .before .before .before .before .before .before .is-malformed in
+    let s = d .before .before .before .before .before .before .before .before .before .before .before .before .before .before .before .before .before .before in
     let a = s .args in
-    let n = c .before .before .before .before .before .before .before .before .before .before .before .before .before .receive-number .ensures in
-    let ok = receivable (a .link) (a .octets .now) (a .pool .now) (a .descriptors .now) (a .records .now) (sym n ∙ c .before .before .before .before .before .before .before .before .before .before .before .before .if1 .left) in
-    let typed = array-of-octets 279 (a .link .line .area) _ (s .good .0 .1 .1 .1 .1 .0 .1 .1 .1 .0) in
-    let p = c .before .before .before .before .before .before .before .before .before .before .before .progress-of .ensures in (
-      (
-        ok .formed .settings,
-        subst (λ (x : Progress). StateInRange (a .link .settings) (holding x (a .pool .now) (a .descriptors .now) (a .records .now))) (sym p) (ready (a .link) (a .octets .now) (a .pool .now) (a .descriptors .now) (a .records .now) ok),
-      ),
-      ((held (a .link) (a .octets .now) (a .pool .now) (a .descriptors .now) (a .records .now) ok typed, subst (λ (x : Progress). recordOctets * x .count + recordRoom * length (a .octets .now) ≤ length (a .records .now)) (sym p) (omega (arith, ok .room)), ok .few), (c .before .before .before .before .before .before .before .row-table .ensures, c .before .before .before .before .before .before .check-table .ensures)),
-    )
+    let l = a .t1 in
+    let typed = array-of-octets 279 (l .line .area) _ (s .good .0 .1 .1 .1 .1 .0 .1 .1 .1 .0) in
+    let w = may-take l (a .octets .now) (a .pool .now) (a .descriptors .now) (a .records .now) (n .result) (n .ensures l (m .ensures) refl refl) (d .progress-of .result) (d .progress-of .ensures) (i .if1 .taken) typed in
+    (w .0, (w .1, (c .before .before .before .before .before .before .before .row-table .ensures, c .before .before .before .before .before .before .check-table .ensures)))
 
 link-received-requires : tie.Need-link-received-requires
 link-received-requires c κs = search needs
 
-same-length-4 : tie.Need-same-length-4
-same-length-4 c = search needs
+same-length : tie.Need-same-length
+same-length c = ⊎-elim (λ w. ap length (w .20) ∙ w .11 .kept .1 .1 .1 .1 .1 .1 .0) (λ w. ap length (w .1)) (c .before .if1 .came)
 
-same-length-5 : tie.Need-same-length-5
-same-length-5 c = search needs
+same-length-2 : tie.Need-same-length-2
+same-length-2 c = ⊎-elim (λ w. ap length (w .21) ∙ w .11 .kept .1 .1 .1 .1 .1 .1 .1 .0) (λ w. ap length (w .2)) (c .before .if1 .came)
 
-same-length-6 : tie.Need-same-length-6
-same-length-6 c = search needs
+same-length-3 : tie.Need-same-length-3
+same-length-3 c = ⊎-elim (λ w. ap length (w .22) ∙ w .11 .kept .1 .1 .1 .1 .1 .1 .1 .1 .0) (λ w. ap length (w .3)) (c .before .if1 .came)
 
-returns-2 : tie.Need-returns-2
-returns-2 c =
-    let a = c .before .before .before .before .before .before .before .before .before .before .before .before .before .before .before .before .before .before .before .before .before .before .before .before .before .before .before .before .before .before .before .args in
-    let n = c .before .before .before .before .before .before .before .before .before .before .before .before .before .before .before .before .before .before .before .before .before .before .before .receive-number in
-    let z = c .before .before .before .before .before .before .before .before .before .before .before .before .before .before .before .before .before .before .before .before .before .before .if1 .left in
-    let ok = receivable (a .link) (a .octets .now) (a .pool .now) (a .descriptors .now) (a .records .now) (sym (n .ensures) ∙ z) in
-    let p = c .before .before .before .before .before .before .before .before .before .before .before .before .before .before .before .before .before .before .before .before .before .progress-of .ensures in
-    let t = c .before .before .before .before .before .before .before .before .before .take-line in
-    receive-done (a .link) (a .octets .now) (a .pool .now) (a .descriptors .now) (a .records .now) (n .result) (n .ensures) (t .result) (t .last .1 .1 .1 .1 .0) (t .last .1 .1 .1 .1 .1 .1 .0) (t .last .1 .1 .1 .1 .1 .1 .1 .0)
-    (t .last .1 .1 .1 .1 .1 .1 .1 .1 .0) (c .link-received .result) z (ok .formed .settings .m .1)
-    (subst (λ (x : Progress).
-    LineTaken (a .link .settings) (a .link .line .state) (a .link .line .area) (a .octets .now) (holding x (a .pool .now) (a .descriptors .now) (a .records .now)) (t .result)
-    (t .last .1 .1 .1 .1 .0) (holding (t .result .progress) (t .last .1 .1 .1 .1 .1 .1 .0) (t .last .1 .1 .1 .1 .1 .1 .1 .0) (t .last .1 .1 .1 .1 .1 .1 .1 .1 .0))) p (t .ensures))
-    (c .link-received .ensures)
+returns : tie.Need-returns
+returns c =
+    let j = c .before .if1 in
+    let d = c .before .before in
+    let n = d .before .before .receive-number in
+    let m = d .before .before .before .before .before .before .is-malformed in
+    let a = d .before .before .before .before .before .before .before .before .before .before .before .before .before .before .before .before .before .before .args in
+    let l = a .t1 in
+    let e = n .ensures l (m .ensures) refl refl in
+    ⊎-elim
+    (λ w.
+    let t = w .11 in
+    receive-done l (a .octets .now) (a .pool .now) (a .descriptors .now) (a .records .now) (n .result) e (d .progress-of .result) (d .progress-of .ensures)
+    (c .link-received .result) (j .g) (j .q) (j .pool) (j .descriptors) (j .records) (c .link-received .ensures)
+    (w .0 .taken) (t .result) (t .last .1 .1 .1 .1 .0) (t .last .1 .1 .1 .1 .1 .1 .0) (t .last .1 .1 .1 .1 .1 .1 .1 .0) (t .last .1 .1 .1 .1 .1 .1 .1 .1 .0)
+    (t .ensures) (w .20) (w .21) (w .22) (w .23) (w .24))
+    (λ w.
+    receive-refused l (a .octets .now) (a .pool .now) (a .descriptors .now) (a .records .now) (n .result) e (d .progress-of .result) (d .progress-of .ensures)
+    (c .link-received .result) (j .g) (j .q) (j .pool) (j .descriptors) (j .records) (c .link-received .ensures)
+    (w .0 .left) (w .1) (w .2) (w .3) (w .4) (w .5))
+    (j .came)
 
 pub receive-octets-spec : {M : Type 1} → statement M
 receive-octets-spec =
     tie.close
     (tie.spec
+    is-malformed-requires
     receive-number-requires
-    same-length
-    same-length-2
-    same-length-3
-    returns
     progress-of-requires
     row-table-requires
     check-table-requires
     take-line-requires
     link-received-requires
-    same-length-4
-    same-length-5
-    same-length-6
-    returns-2)
+    same-length
+    same-length-2
+    same-length-3
+    returns)
