@@ -2,3 +2,4 @@
 pub mod Views
 pub mod Opened
 pub mod Cases
+pub mod Areas

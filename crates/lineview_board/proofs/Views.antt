@@ -2,6 +2,14 @@
 use Prim.Native.Nat.{ℕ, suc, _+_, _-_, _≤_, _<_}
 use mathlib.Core.Path.{_≡_, refl, sym, ap, ap₂, _∙_}
 use mathlib.Core.List.{List, [], _∷_}
+use mathlib.Core.Bool.{Bool, true, false, false≢true}
+use lib.Dec.{eqb}
+use Rattle.bits.specs.Format.{basic}
+use Rattle.memory.specs.declared.Status.the-variants.{Empty}
+use Rattle.memory.specs.Lent.{statusOf, lengthOf, statusWord}
+use Rattle.link.specs.Refusals.{readNumber, unreadable}
+use Rattle.link.proofs.Faults.{none}
+use Rattle.link.proofs.Kept.{refused-hand-back}
 use native.Mathlib.Numerals.{add-one}
 use native.Mathlib.Omega.{arith}
 use Rattle.board.specs.declared.Settings.{Settings}
@@ -24,6 +32,26 @@ board-opened-is l s pool descriptors o r el es eo er =
     ap (λ (x : Answer). x .link) er ∙ ap (λ (x : Outcome). commandAnswer (x .link) 2 .link) e in
     λ i. record { link = link i; pool = e i .pool; descriptors = e i .descriptors }
 
+-- hand back gives the link as it was, refused or not
+hand-link : (l : Link) (pool descriptors : List ℕ) (slot : ℕ) → handAnswer l pool descriptors slot .link ≡ l
+unfolding handAnswer
+hand-link l pool descriptors slot = go (eqb (readNumber l pool descriptors slot) 0) refl
+  where
+    go : (b : Bool) → eqb (readNumber l pool descriptors slot) 0 ≡ b → handAnswer l pool descriptors slot .link ≡ l
+    go true e = rw e
+    go false e = rw e
+
+-- and refuses a slot that is empty, whatever else is wrong
+empty-unread : (l : Link) (pool descriptors : List ℕ) (slot : ℕ) → readNumber l pool descriptors slot ≡ 0 → statusOf descriptors slot ≡ statusWord Empty → ⊥
+unfolding readNumber
+empty-unread l pool descriptors slot z e =
+    let n1 = none _ _ _ (λ q. omega arith) z in
+    let n2 = none _ _ _ (λ q. omega arith) (n1 .1) in
+    let n5 = none _ _ _ (λ q. omega arith) (n2 .1) in
+    let n12 = none _ _ _ (λ q. omega arith) (n5 .1) in
+    let n13 = none _ _ _ (λ q. omega arith) (n12 .1) in
+    false≢true (sym (n13 .0) ∙ ap (λ (status : ℕ). unreadable basic status (lengthOf descriptors slot)) e)
+
 no-slot : (slot : ℕ) (h : Held) → handedFrom slot 0 h ≡ h
 unfolding handedFrom
 no-slot slot h = refl
@@ -35,12 +63,24 @@ slot-step slot h n = refl
 left : (slot : ℕ) → slot < 16 → suc (16 - (slot + 1)) ≡ 16 - slot
 left slot below = omega arith
 
--- one slot more handed back
-pub slot-more : (slot : ℕ) (h h₀ : Held) (o : Outcome) → slot < 16 → handedFrom slot (16 - slot) h ≡ filledBack h₀
-    → o ≡ handAnswer (h .link) (h .pool) (h .descriptors) slot
-    → handedFrom (slot + 1) (16 - (slot + 1)) (record { link = o .link; pool = o .pool; descriptors = o .descriptors }) ≡ filledBack h₀
-slot-more slot h h₀ o below so-far eo =
-    ap (handedFrom (slot + 1) (16 - (slot + 1))) (ap {B = Held} (λ (x : Outcome). record { link = x .link; pool = x .pool; descriptors = x .descriptors }) eo)
+-- what the call leaves of a slot, with the link as it was
+pub slot-handed : (h : Held) (slot : ℕ) (o : Outcome) → o ≡ handAnswer (h .link) (h .pool) (h .descriptors) slot
+    → record { link = h .link; pool = o .pool; descriptors = o .descriptors } ≡ handedBack h slot
+slot-handed h slot o e =
+    let link = sym (hand-link (h .link) (h .pool) (h .descriptors) slot) in
+    λ i. record { link = link i; pool = e i .pool; descriptors = e i .descriptors }
+
+-- an empty slot is as the call would leave it
+pub slot-empty : (h : Held) (slot : ℕ) → statusOf (h .descriptors) slot ≡ statusWord Empty → h ≡ handedBack h slot
+slot-empty h slot e =
+    let a = refused-hand-back (h .link) (h .pool) (h .descriptors) slot (λ z. empty-unread (h .link) (h .pool) (h .descriptors) slot z e) in
+    sym (ap {B = Held} (λ (x : Outcome). record { link = x .link; pool = x .pool; descriptors = x .descriptors }) a)
+
+-- one slot more
+pub slot-more : (slot : ℕ) (h h₀ h′ : Held) → slot < 16 → handedFrom slot (16 - slot) h ≡ filledBack h₀ → h′ ≡ handedBack h slot
+    → handedFrom (slot + 1) (16 - (slot + 1)) h′ ≡ filledBack h₀
+slot-more slot h h₀ h′ below so-far e =
+    ap (handedFrom (slot + 1) (16 - (slot + 1))) e
     ∙ ap (λ (k : ℕ). handedFrom k (16 - (slot + 1)) (handedBack h slot)) (add-one slot) ∙ slot-step slot h (16 - (slot + 1))
     ∙ ap (λ (n : ℕ). handedFrom slot n h) (left slot below) ∙ so-far
 

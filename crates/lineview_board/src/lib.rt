@@ -3,6 +3,10 @@ use board::Link;
 use board::Settings;
 use input::Received;
 ghost use mathlib.Core.Path.{_≡_};
+ghost use mathlib.Core.Bool.{not};
+ghost use lib.Dec.{eqb};
+ghost use Rattle.memory.specs.declared.Status.the-variants.{Empty};
+ghost use Rattle.memory.specs.Lent.{statusOf, statusWord};
 ghost use Prim.Native.Nat.{_*_, _≤_};
 ghost use lib.ListN.{length};
 ghost use Rattle.board.specs.Limits.{recordOctets};
@@ -38,18 +42,24 @@ pub fn open_board(pool: &mut [u8], descriptors: &mut [u16]) -> Link
     started.link
 }
 
-// Hands back each slot that is filled: for any other the call is refused and changes nothing.
-fn hand_back_filled(link: Link, pool: &mut [u8], descriptors: &mut [u16]) -> Link
-    ensures { λ r. ⌜ record { link = r; pool = now (pool .exit); descriptors = now (descriptors .exit) } ≡ filledBack (record { link = link; pool = now (pool .entry); descriptors = now (descriptors .entry) }) ⌝ }
+// Whether a slot's status is not empty; a slot past the end of the descriptors counts as filled, and the call then refuses it.
+fn is_filled(descriptors: &[u16], slot: u16) -> bool
+    ensures { λ r. ⌜ r ≡ not (eqb (statusOf (now (descriptors .entry)) slot) (statusWord Empty)) ⌝ }
 {
-    let mut l = link;
+    memory::word_at(descriptors, 2 * (slot as usize)) != Link::STATUS_EMPTY
+}
+
+// Hands back each slot that is not empty: for an empty one the call is refused and changes nothing. The link stays as it is.
+pub fn hand_back_filled(link: Link, pool: &mut [u8], descriptors: &mut [u16])
+    ensures { λ _. ⌜ record { link = link; pool = now (pool .exit); descriptors = now (descriptors .exit) } ≡ filledBack (record { link = link; pool = now (pool .entry); descriptors = now (descriptors .entry) }) ⌝ }
+{
     let mut slot: u16 = 0;
     while slot < Link::MOST_SLOTS {
-        let answer = calls::hand_back(l, &mut *pool, &mut *descriptors, slot);
-        l = answer.link;
+        if is_filled(&*descriptors, slot) {
+            let _ = calls::hand_back(link, &mut *pool, &mut *descriptors, slot);
+        }
         slot += 1;
     }
-    l
 }
 
 // One line octet, and filled slots handed back at once.
@@ -64,12 +74,8 @@ pub fn feed(
 {
     let octets = [octet];
     let got = calls::receive(link, &octets, &mut *pool, &mut *descriptors, records);
-    let l = hand_back_filled(got.link, pool, descriptors);
-    Received {
-        number: got.number,
-        link: l,
-        count: got.count,
-    }
+    hand_back_filled(got.link, pool, descriptors);
+    got
 }
 
 // How many octets so many records are, at most all of the area.

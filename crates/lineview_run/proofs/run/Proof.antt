@@ -6,10 +6,14 @@ use Rattle.lineview_run.proofs.run.Statement.{statement}
 use Rattle.lineview_run.proofs.run.Tie as tie
 
 abbrev Inv-loop : tie.InvT-loop
-Inv-loop pool₀ descriptors₀ t₀ left₀ pool descriptors t left = (length pool ≡ length pool₀) × (length descriptors ≡ length descriptors₀)
+Inv-loop pool₀ descriptors₀ buffer₀ records₀ t₀ left₀ pool descriptors buffer records t left =
+    (length pool ≡ length pool₀)
+    × (length descriptors ≡ length descriptors₀)
+    × (length buffer ≡ length buffer₀)
+    × (length records ≡ length records₀)
 
 abbrev μ-loop : tie.MeasureT-loop
-μ-loop pool₀ descriptors₀ t₀ left₀ pool descriptors t left = left
+μ-loop pool₀ descriptors₀ buffer₀ records₀ t₀ left₀ pool descriptors buffer records t left = left
 
 loop-holds : tie.Need-loop-holds Inv-loop μ-loop
 loop-holds c = search needs
@@ -32,14 +36,26 @@ same-length c = search needs
 same-length-2 : tie.Need-same-length-2 Inv-loop μ-loop
 same-length-2 c = search needs
 
-returns : tie.Need-returns Inv-loop μ-loop
-returns c = search needs
-
 same-length-3 : tie.Need-same-length-3 Inv-loop μ-loop
 same-length-3 c = search needs
 
 same-length-4 : tie.Need-same-length-4 Inv-loop μ-loop
 same-length-4 c = search needs
+
+returns : tie.Need-returns Inv-loop μ-loop
+returns c = search needs
+
+same-length-5 : tie.Need-same-length-5 Inv-loop μ-loop
+same-length-5 c = search needs
+
+same-length-6 : tie.Need-same-length-6 Inv-loop μ-loop
+same-length-6 c = search needs
+
+same-length-7 : tie.Need-same-length-7 Inv-loop μ-loop
+same-length-7 c = search needs
+
+same-length-8 : tie.Need-same-length-8 Inv-loop μ-loop
+same-length-8 c = search needs
 
 returns-2 : tie.Need-returns-2 Inv-loop μ-loop
 returns-2 c = search needs
@@ -57,7 +73,11 @@ run-spec =
     loop-again
     same-length
     same-length-2
-    returns
     same-length-3
     same-length-4
+    returns
+    same-length-5
+    same-length-6
+    same-length-7
+    same-length-8
     returns-2)
