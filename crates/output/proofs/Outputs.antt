@@ -5,7 +5,7 @@ use mathlib.Core.Bool.{Bool, true, false, cond}
 use mathlib.Core.List.{List, [], _∷_, _++_, append-nil}
 use native.Mathlib.Nat.{zero-add, div-lt-iff-lt-mul}
 use native.Mathlib.Omega.{arith}
-use lib.Dec.{ltb}
+use lib.Dec.{ltb, eqb}
 use lib.ListN.{length, getD, take, drop, length-append}
 use lib.Seq.{sets, length-sets}
 use lib.Pow.{pow-pos}
@@ -30,7 +30,7 @@ use Rattle.link.proofs.Faults.{none}
 use Rattle.link.proofs.Answers.{done, refused}
 use Rattle.output.specs.Refusals.{sendNumber, fillNumber}
 use Rattle.output.specs.InnerRefusals.{sharedNumber}
-use Rattle.output.specs.Output.{sender, firstFlag, unitOut, fillContent, fillOut, fillEvent, linkSent, putOut, notSent, sendAnswer, fillAnswer}
+use Rattle.output.specs.Output.{OutputOutcome, sender, firstFlag, unitOut, fillContent, fillOut, fillEvent, linkSent, putOut, notSent, sendAnswer, fillAnswer}
 
 -- ---- what no fault says
 pub record Ready-to-put (l : Link) (output : List ℕ) : Type 0 where
@@ -156,53 +156,97 @@ fill-content (a ∷ []) h = absurd (omega arith)
 fill-content (a ∷ b ∷ []) h = refl
 fill-content (a ∷ b ∷ c ∷ cs) h = absurd (omega arith)
 
--- bits put behind what waits
-put-done : (l : Link) (bits : List Bool) (sent : Bool) (last : List ℕ) (event : ℕ) (output : List ℕ) (r : Tx) (out′ : List ℕ) (link′ : Link)
-    → Puts output (sender (l .transmitter)) bits 0 r out′ → link′ ≡ linkSent l (r .count) (r .wait) sent last event
-    → record { number = 0; link = link′; count = r .at; output = out′ } ≡ putOut l bits sent last event output
-put-done l bits sent last event output r out′ link′ p q =
-    let t = sender (l .transmitter) in
-    let links : link′ ≡ linkSent l (length (stillWaiting t bits)) (octetOf (stillWaiting t bits)) sent last event =
-    q ∙ ap (λ (x : Tx). linkSent l (x .count) (x .wait) sent last event) (p .tx) in
-    let at : r .at ≡ length (octetsOut t bits) = ap (λ (x : Tx). x .at) (p .tx) ∙ zero-add (length (octetsOut t bits)) in
-    let area : out′ ≡ sets output 0 (octetsOut t bits) = p .area in
-    λ i. record { number = 0; link = links i; count = at i; output = area i }
+-- ---- a fill: a flag before any content, then the unit of the last content
+module _ (t : Transmitter) (output : List ℕ) where
+  fill-flag : t .sent ≡ false → fillOut t ≡ flag
+  unfolding fillOut
+  fill-flag e = rw e
 
-module _ (l : Link) (content output : List ℕ) (n : ℕ) (e : n ≡ sendNumber l content output) where
-  pub send-refused : (n ≡ 0 → ⊥) → notSent n l output ≡ sendAnswer l content output
+  fill-unit : t .sent ≡ true → fillOut t ≡ unitOut t (fillContent basic (t .last))
+  unfolding fillOut
+  fill-unit e = rw e
+
+  pub fill-flag-room : t .sent ≡ false → Room (sender t) (fillOut t) output → Room (sender t) flag output
+  fill-flag-room e r = subst (λ (bs : List Bool). Room (sender t) bs output) (fill-flag e) r
+
+  pub fill-flag-puts : t .sent ≡ false → (r : Tx) (out′ : List ℕ) → Puts output (sender t) flag 0 r out′ → Puts output (sender t) (fillOut t) 0 r out′
+  fill-flag-puts e r out′ p = subst (λ (bs : List Bool). Puts output (sender t) bs 0 r out′) (sym (fill-flag e)) p
+
+  module _ (e : t .sent ≡ true) (h : length (t .last) ≡ 2) where
+    abbrev content : List ℕ
+    content = getD (t .last) 0 0 ∷ getD (t .last) 1 0 ∷ 0 ∷ []
+
+    unit-is : fillOut t ≡ unitOut t content
+    unit-is = fill-unit e ∙ ap (unitOut t) (sym (fill-content (t .last) h))
+
+    pub fill-unit-room : Room (sender t) (fillOut t) output → Room (sender t) (unitOut t content) output
+    fill-unit-room r = subst (λ (bs : List Bool). Room (sender t) bs output) unit-is r
+
+    pub fill-unit-puts : (r : Tx) (out′ : List ℕ) → Puts output (sender t) (unitOut t content) 0 r out′ → Puts output (sender t) (fillOut t) 0 r out′
+    fill-unit-puts r out′ p = subst (λ (bs : List Bool). Puts output (sender t) bs 0 r out′) (sym unit-is) p
+
+pub fill-room : (l : Link) (output : List ℕ) → Ready-to-put l output → length (l .transmitter .last) ≡ 2
+    → Room (sender (l .transmitter)) (fillOut (l .transmitter)) output
+fill-room l output r h = go (l .transmitter .sent) refl
+  where
+    go : (b : Bool) → l .transmitter .sent ≡ b → Room (sender (l .transmitter)) (fillOut (l .transmitter)) output
+    go false e = subst (λ (bs : List Bool). Room (sender (l .transmitter)) bs output) (sym (fill-flag (l .transmitter) output e)) (flag-room l output r)
+    go true e =
+        subst (λ (bs : List Bool). Room (sender (l .transmitter)) bs output) (sym (unit-is (l .transmitter) output e h))
+        (unit-room l (content (l .transmitter) output e h) output r (omega arith))
+
+-- ---- the answers, by their number
+abbrev answered : ℕ → Link → List Bool → Bool → List ℕ → ℕ → List ℕ → OutputOutcome
+answered n l bits sent last event output = cond (eqb n 0) (putOut l bits sent last event output) (notSent n l output)
+
+module _ (n number : ℕ) (e : n ≡ number) (l : Link) (bits : List Bool) (sent : Bool) (last : List ℕ) (event : ℕ) (output : List ℕ) (link′ : Link) (count : ℕ)
+    (out′ : List ℕ) where
+  put-refused : (n ≡ 0 → ⊥) → link′ ≡ l → count ≡ 0 → out′ ≡ output
+      → record { number = n; link = link′; count = count; output = out′ } ≡ answered number l bits sent last event output
+  put-refused z el ec eo =
+      let same : record { number = n; link = link′; count = count; output = out′ } ≡ notSent number l output =
+      λ i. record { number = e i; link = el i; count = ec i; output = eo i } in
+      same ∙ sym (refused _ _ _ (λ q. z (e ∙ q)))
+
+  put-done : (r : Tx) → n ≡ 0 → Puts output (sender (l .transmitter)) bits 0 r out′ → link′ ≡ linkSent l (r .count) (r .wait) sent last event → count ≡ r .at
+      → record { number = n; link = link′; count = count; output = out′ } ≡ answered number l bits sent last event output
+  put-done r z p q ec =
+      let t = sender (l .transmitter) in
+      let links : link′ ≡ linkSent l (length (stillWaiting t bits)) (octetOf (stillWaiting t bits)) sent last event =
+      q ∙ ap (λ (x : Tx). linkSent l (x .count) (x .wait) sent last event) (p .tx) in
+      let at : count ≡ length (octetsOut t bits) = ec ∙ ap (λ (x : Tx). x .at) (p .tx) ∙ zero-add (length (octetsOut t bits)) in
+      let same : record { number = n; link = link′; count = count; output = out′ } ≡ putOut l bits sent last event output =
+      λ i. record { number = z i; link = links i; count = at i; output = p .area i } in
+      same ∙ sym (done _ _ _ (sym e ∙ z))
+
+module _ (l : Link) (content output : List ℕ) (n : ℕ) (e : n ≡ sendNumber l content output) (link′ : Link) (count : ℕ) (out′ : List ℕ) where
+  abbrev Sends : Type 0
+  Sends = record { number = n; link = link′; count = count; output = out′ } ≡ sendAnswer l content output
+
+  pub send-refused : (n ≡ 0 → ⊥) → link′ ≡ l → count ≡ 0 → out′ ≡ output → Sends
   unfolding sendAnswer
-  send-refused z = ap (λ (k : ℕ). notSent k l output) e ∙ sym (refused _ _ _ (λ q. z (e ∙ q)))
+  send-refused = put-refused n (sendNumber l content output) e l (unitOut (l .transmitter) content) true (take 2 content) 128 output link′ count out′
 
-  pub send-done : (r : Tx) (out′ : List ℕ) (link′ : Link) → n ≡ 0 → Puts output (sender (l .transmitter)) (unitOut (l .transmitter) content) 0 r out′
-      → link′ ≡ linkSent l (r .count) (r .wait) true (getD content 0 0 ∷ getD content 1 0 ∷ []) 128
-      → record { number = 0; link = link′; count = r .at; output = out′ } ≡ sendAnswer l content output
+  pub send-done : (r : Tx) → n ≡ 0 → Puts output (sender (l .transmitter)) (unitOut (l .transmitter) content) 0 r out′
+      → link′ ≡ linkSent l (r .count) (r .wait) true (getD content 0 0 ∷ getD content 1 0 ∷ []) 128 → count ≡ r .at → Sends
   unfolding sendAnswer
-  send-done r out′ link′ z p q =
-      let z′ = sym e ∙ z in
-      put-done l (unitOut (l .transmitter) content) true (take 2 content) 128 output r out′ link′ p
-      (q ∙ ap (λ (last : List ℕ). linkSent l (r .count) (r .wait) true last 128) (take-two content (sendable l content output z′ .1)))
-      ∙ sym (done _ _ _ z′)
+  send-done r z p q =
+      put-done n (sendNumber l content output) e l (unitOut (l .transmitter) content) true (take 2 content) 128 output link′ count out′ r z p
+      (q ∙ ap (λ (last : List ℕ). linkSent l (r .count) (r .wait) true last 128) (take-two content (sendable l content output (sym e ∙ z) .1)))
 
-module _ (l : Link) (output : List ℕ) (n : ℕ) (e : n ≡ fillNumber l output) where
-  pub fill-refused : (n ≡ 0 → ⊥) → notSent n l output ≡ fillAnswer l output
+module _ (l : Link) (output : List ℕ) (n : ℕ) (e : n ≡ fillNumber l output) (link′ : Link) (count : ℕ) (out′ : List ℕ) where
+  abbrev Fills : Type 0
+  Fills = record { number = n; link = link′; count = count; output = out′ } ≡ fillAnswer l output
+
+  pub fill-refused : (n ≡ 0 → ⊥) → link′ ≡ l → count ≡ 0 → out′ ≡ output → Fills
   unfolding fillAnswer
-  fill-refused z = ap (λ (k : ℕ). notSent k l output) e ∙ sym (refused _ _ _ (λ q. z (e ∙ q)))
+  fill-refused =
+      put-refused n (fillNumber l output) e l (fillOut (l .transmitter)) (l .transmitter .sent) (l .transmitter .last) (fillEvent (l .transmitter .sent)) output link′
+      count out′
 
-  pub flag-done : (r : Tx) (out′ : List ℕ) (link′ : Link) → n ≡ 0 → l .transmitter .sent ≡ false → Puts output (sender (l .transmitter)) flag 0 r out′
-      → link′ ≡ linkSent l (r .count) (r .wait) false (l .transmitter .last) 0
-      → record { number = 0; link = link′; count = r .at; output = out′ } ≡ fillAnswer l output
-  unfolding fillAnswer fillOut
-  flag-done r out′ link′ z s p q =
-      put-done l flag false (l .transmitter .last) 0 output r out′ link′ p q
-      ∙ ap (λ (b : Bool). putOut l (cond b (unitOut (l .transmitter) (fillContent basic (l .transmitter .last))) flag) b (l .transmitter .last) (fillEvent b) output) (sym s)
-      ∙ sym (done _ _ _ (sym e ∙ z))
-
-  pub fill-done : (r : Tx) (out′ : List ℕ) (link′ : Link) → n ≡ 0 → l .transmitter .sent ≡ true
-      → Puts output (sender (l .transmitter)) (unitOut (l .transmitter) (fillContent basic (l .transmitter .last))) 0 r out′
-      → link′ ≡ linkSent l (r .count) (r .wait) true (l .transmitter .last) 256
-      → record { number = 0; link = link′; count = r .at; output = out′ } ≡ fillAnswer l output
-  unfolding fillAnswer fillOut
-  fill-done r out′ link′ z s p q =
-      put-done l (unitOut (l .transmitter) (fillContent basic (l .transmitter .last))) true (l .transmitter .last) 256 output r out′ link′ p q
-      ∙ ap (λ (b : Bool). putOut l (cond b (unitOut (l .transmitter) (fillContent basic (l .transmitter .last))) flag) b (l .transmitter .last) (fillEvent b) output) (sym s)
-      ∙ sym (done _ _ _ (sym e ∙ z))
+  pub fill-done : (r : Tx) → n ≡ 0 → Puts output (sender (l .transmitter)) (fillOut (l .transmitter)) 0 r out′
+      → link′ ≡ linkSent l (r .count) (r .wait) (l .transmitter .sent) (l .transmitter .last) (fillEvent (l .transmitter .sent)) → count ≡ r .at → Fills
+  unfolding fillAnswer
+  fill-done =
+      put-done n (fillNumber l output) e l (fillOut (l .transmitter)) (l .transmitter .sent) (l .transmitter .last) (fillEvent (l .transmitter .sent)) output link′ count
+      out′

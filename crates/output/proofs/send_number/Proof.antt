@@ -13,7 +13,7 @@ shared-number-requires c κs = search needs
 
 returns : tie.Need-returns
 unfolding sendNumber first
-returns c = rw (c .shared-number .ensures, c .before .refuse .ensures)
+returns c l em eo = rw (c .shared-number .ensures l em eo, c .before .refuse .ensures)
 
 pub send-number-spec : {M : Type 1} → statement M
 send-number-spec = tie.close (tie.spec refuse-requires shared-number-requires returns)

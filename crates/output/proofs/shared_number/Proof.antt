@@ -3,9 +3,6 @@ use borrow.Author.Needs.{needs}
 use Rattle.output.proofs.shared_number.Statement.{statement}
 use Rattle.output.proofs.shared_number.Tie as tie
 
-is-malformed-requires : tie.Need-is-malformed-requires
-is-malformed-requires c κs = search needs
-
 refuse-requires : tie.Need-refuse-requires
 refuse-requires c κs = search needs
 
@@ -16,9 +13,8 @@ refuse-requires-3 : tie.Need-refuse-requires-3
 refuse-requires-3 c κs = search needs
 
 returns : tie.Need-returns
-returns c = rw (c .refuse3 .ensures, c .before .refuse2 .ensures, c .before .before .before .refuse .ensures, c .before .before .before .before .is-malformed .ensures)
+returns c l em eo = rw (c .refuse3 .ensures, c .before .refuse2 .ensures, c .before .before .refuse .ensures, em, eo)
 
 pub shared-number-spec : {M : Type 1} → statement M
 shared-number-spec =
-    tie.close
-    (tie.spec is-malformed-requires refuse-requires refuse-requires-2 refuse-requires-3 returns)
+    tie.close (tie.spec refuse-requires refuse-requires-2 refuse-requires-3 returns)
