@@ -3,10 +3,9 @@ use Prim.Native.Nat.{ℕ, suc, _+_, _-_, _*_, _/_, _%_, _^_, _≤_, _<_}
 use mathlib.Core.Path.{_≡_, sym, ap, ap₂, _∙_}
 use mathlib.Core.Bool.{Bool}
 use mathlib.Core.List.{List, [], _∷_, _++_, append-assoc, append-nil}
-use native.Mathlib.Nat.{pow-suc, mul-assoc}
 use native.Mathlib.Omega.{arith}
-use lib.ListN.{length, getD, take, drop, set, replicate, length-append, length-drop, take-append-drop, drop-of-length-le}
-use lib.Seq.{take-all, length-take-le, set-set, set-getD, set-at, getD-at}
+use lib.ListN.{length, getD, drop, set, replicate, length-append, length-drop, drop-of-length-le}
+use lib.Seq.{take-all, set-set, set-getD, set-at, getD-at}
 use lib.Pow.{pow-mono, shl-lt, shl-exact}
 use Rattle.bits.specs.Octets.{octetOf, packed, wholeOctets, bitsAfter}
 use Rattle.bits.proofs.Digits.{octetOf-lt}

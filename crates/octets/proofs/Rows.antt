@@ -1,6 +1,6 @@
 -- The rows: each is that of its run and octet, and what its three numbers say.
-use Prim.Native.Nat.{ℕ, zero, suc, _+_, _*_, _/_, _%_, _≤_, _<_, min}
-use mathlib.Core.Path.{_≡_, refl, sym, ap, ap₂, _∙_}
+use Prim.Native.Nat.{ℕ, _+_, _*_, _/_, _%_, _≤_, _<_, min}
+use mathlib.Core.Path.{_≡_, refl, sym, ap, _∙_}
 use mathlib.Core.Bool.{Bool, true, false, not, _&&_, and-assoc}
 use mathlib.Core.List.{List, [], _∷_, _++_}
 use native.Mathlib.Nat.{lt-of-lt-of-le, pow-le-pow-right}
@@ -11,30 +11,19 @@ use Rattle.bits.specs.Octets.{bitsOf, octetOf}
 use Rattle.bits.proofs.Digits.{length-bitsOf, octetOf-lt}
 use Rattle.bits.proofs.Machines.{run-append, outs-append}
 use Rattle.bits.proofs.Tests.{both-true}
-use Rattle.octets.specs.Rows.{runNext, keptOf, runOver, kept, plain, rowOf, rowsFrom, rowTable}
+use Rattle.fcs.specs.Table.{tableFrom}
+use Rattle.fcs.proofs.Tables.{pair-at}
+use Rattle.octets.specs.Rows.{runNext, keptOf, runOver, kept, plain, rowOf, rowTable}
 use Rattle.octets.specs.Plain.{EachRow}
 use Rattle.octets.proofs.Plain.{kept-few}
 
 -- ---- a row's place
-row-at : (n k i : ℕ) → i < n → getD (rowsFrom k n) i 0 ≡ rowOf ((k + i) / 256) ((k + i) % 256)
-unfolding rowsFrom
-row-at zero k i h = absurd (omega arith)
-row-at (suc n) k zero h =
-    let e : k ≡ k + 0 = omega arith in
-    ap (λ (j : ℕ). rowOf (j / 256) (j % 256)) e
-row-at (suc n) k (suc i) h =
-    let e : suc k + i ≡ k + suc i = omega arith in
-    row-at n (suc k) i (omega arith) ∙ ap (λ (j : ℕ). rowOf (j / 256) (j % 256)) e
-
-table-rows : rowTable ≡ rowsFrom 0 2048
+table-rows : rowTable ≡ tableFrom (λ i. rowOf (i / 256) (i % 256)) 0 2048
 unfolding rowTable
 table-rows = refl
 
 pub each-row : EachRow
-each-row r x h k =
-    let d : (0 + (r * 256 + x)) / 256 ≡ r = omega arith in
-    let m : (0 + (r * 256 + x)) % 256 ≡ x = omega arith in
-    ap (λ (l : List ℕ). getD l (r * 256 + x) 0) table-rows ∙ row-at 2048 0 (r * 256 + x) (omega arith) ∙ ap₂ rowOf d m
+each-row r x h k = ap (λ (l : List ℕ). getD l (r * 256 + x) 0) table-rows ∙ pair-at rowOf 2048 r x k (omega arith)
 
 -- ---- bits in two parts
 pub plain-append : (r : ℕ) (xs ys : List Bool) → plain r (xs ++ ys) ≡ plain r xs && plain (runOver r xs) ys

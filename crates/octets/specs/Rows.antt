@@ -1,11 +1,12 @@
 -- "for each of the eight runs of ones and each of 256 octets, the kept bits, their number and the new run; octets in which a flag or abort ends go to the bit rule"
-use Prim.Native.Nat.{ℕ, zero, suc, _+_, _*_, _/_, _%_, min}
+use Prim.Native.Nat.{ℕ, _+_, _*_, _/_, _%_, min}
 use mathlib.Core.Bool.{Bool, true, false, not, _&&_, cond}
 use mathlib.Core.List.{List, [], _∷_}
 use lib.Dec.{eqb}
 use lib.ListN.{length}
 use Rattle.bits.specs.Octets.{bitsOf, octetOf}
 use Rattle.bits.specs.Machine.{run, outs}
+use Rattle.fcs.specs.Table.{tableFrom}
 
 -- ---- the bit rule, as far as it rests on the run of ones alone
 -- "A one: R rises, not above 7." A zero: "R becomes 0."
@@ -42,9 +43,5 @@ rowOf r x =
     cond (plain r bs) (octetOf (kept r bs) + runOver r bs * 256 + length (kept r bs) * 65536) (marked + runOver r bs * 256)
 
 -- the table: 256 rows for each run
-unfoldable pub rowsFrom : ℕ → ℕ → List ℕ
-rowsFrom k zero = []
-rowsFrom k (suc n) = rowOf (k / 256) (k % 256) ∷ rowsFrom (suc k) n
-
 unfoldable pub rowTable : List ℕ
-rowTable = rowsFrom 0 2048
+rowTable = tableFrom (λ i. rowOf (i / 256) (i % 256)) 0 2048

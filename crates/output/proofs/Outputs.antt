@@ -7,7 +7,7 @@ use native.Mathlib.Nat.{zero-add, div-lt-iff-lt-mul}
 use native.Mathlib.Omega.{arith}
 use lib.Dec.{ltb, eqb}
 use lib.ListN.{length, getD, take, drop, length-append}
-use lib.Seq.{sets, length-sets}
+use lib.Seq.{length-sets}
 use lib.Pow.{pow-pos}
 use borrow.Author.Tests.{eqb-true, ltb-false, not-false}
 use Rattle.bits.specs.Format.{basic}

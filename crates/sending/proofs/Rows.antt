@@ -1,7 +1,6 @@
 -- The rows of stuffing: each is that of its count of ones and octet, and what its three numbers say.
 use Prim.Native.Nat.{ℕ, _+_, _*_, _/_, _%_, _^_, _≤_, _<_}
-use mathlib.Core.Path.{_≡_, refl, sym, ap, ap₂, subst, _∙_}
-use mathlib.Core.Bool.{Bool}
+use mathlib.Core.Path.{_≡_, refl, sym, ap, ap₂, _∙_}
 use mathlib.Core.List.{List}
 use native.Mathlib.Nat.{lt-of-lt-of-le}
 use native.Mathlib.Omega.{arith}
@@ -10,7 +9,7 @@ use lib.Pow.{pow-mono}
 use Rattle.bits.specs.Octets.{bitsOf, octetOf}
 use Rattle.bits.proofs.Digits.{length-bitsOf, all-back, octetOf-lt}
 use Rattle.fcs.specs.Table.{tableFrom}
-use Rattle.fcs.proofs.Tables.{word-at}
+use Rattle.fcs.proofs.Tables.{pair-at}
 use Rattle.sending.specs.Stuffing.{stuffed, onesOver, zerosIn}
 use Rattle.sending.specs.Rows.{rowOf, stuffingTable}
 use Rattle.sending.specs.Promises.{EachRow}
@@ -21,10 +20,7 @@ unfolding stuffingTable
 table-rows = refl
 
 pub each-row : EachRow
-each-row ones x h k =
-    let d : (ones * 256 + x) / 256 ≡ ones = omega arith in
-    let m : (ones * 256 + x) % 256 ≡ x = omega arith in
-    ap (λ (l : List ℕ). getD l (ones * 256 + x) 0) table-rows ∙ word-at (λ i. rowOf (i / 256) (i % 256)) 1280 (ones * 256 + x) (omega arith) ∙ ap₂ rowOf d m
+each-row ones x h k = ap (λ (l : List ℕ). getD l (ones * 256 + x) 0) table-rows ∙ pair-at rowOf 1280 ones x k (omega arith)
 
 three-numbers : (row v z o : ℕ) → row ≡ v + z * 1024 + o * 4096 → v < 1024 → z ≤ 2 → (row % 1024 ≡ v) × (row / 1024 % 4 ≡ z) × (row / 4096 ≡ o)
 three-numbers row v z o e h k = omega arith
