@@ -15,7 +15,7 @@ struct Run {
 }
 
 // Row 1 with 16 slots and the mask all ones. The switches are the number's bits: 0 filter, 1 itu, 2 orn.
-fn settings(switches: u64) -> Settings {
+pub fn settings(switches: u64) -> Settings {
     let row = calls::numbers(1);
     let filter = switches % 2 == 1;
     let itu = switches / 2 % 2 == 1;
@@ -35,7 +35,7 @@ fn settings(switches: u64) -> Settings {
 }
 
 // A new booking with the failure monitor started. Where the memory is not zero or not of the right size, the link stays closed.
-fn open_board(switches: u64, pool: &mut [u8], descriptors: &mut [u16]) -> Link {
+pub fn open_board(switches: u64, pool: &mut [u8], descriptors: &mut [u16]) -> Link {
     let closed = Link::new();
     let s = settings(switches);
     let opened = calls::open(closed, s, pool, descriptors);
@@ -43,36 +43,11 @@ fn open_board(switches: u64, pool: &mut [u8], descriptors: &mut [u16]) -> Link {
     started.link
 }
 
-// Whether a slot has a status other than empty.
-fn is_filled(descriptors: &[u16], slot: u16) -> bool {
-    let at = 2 * (slot as usize);
-    if at < descriptors.len() {
-        descriptors[at] != Link::STATUS_EMPTY
-    } else {
-        false
-    }
-}
-
-// Hands back every filled slot.
-fn hand_back_filled(link: Link, pool: &mut [u8], descriptors: &mut [u16]) -> Link {
-    let mut l = link;
-    let mut slot: u16 = 0;
-    while slot < Link::MOST_SLOTS {
-        if is_filled(&*descriptors, slot) {
-            let answer = calls::hand_back(l, &mut *pool, &mut *descriptors, slot);
-            l = answer.link;
-        }
-        slot += 1;
-    }
-    l
-}
-
 // After a call that wrote records, every filled slot is handed back; without a record no slot was filled.
-fn hand_back_after(link: Link, records: usize, pool: &mut [u8], descriptors: &mut [u16]) -> Link {
-    if records == 0 {
-        return link;
+fn hand_back_after(link: Link, records: usize, pool: &mut [u8], descriptors: &mut [u16]) {
+    if records != 0 {
+        lineview_board::hand_back_filled(link, pool, descriptors);
     }
-    hand_back_filled(link, pool, descriptors)
 }
 
 // One call of the engine that a number names: 0 is receive, 1 receive_octets. Any other feeds nothing.
@@ -94,17 +69,6 @@ fn feed(
         number: 0,
         link: link,
         count: 0,
-    }
-}
-
-// How many octets so many records are, at most all of the area.
-fn octets_of(count: usize, records: &[u8]) -> usize
-    ensures { λ r. ⌜ r ≤ length (now (records .entry)) ⌝ }
-{
-    if count <= records.len() / Link::RECORD {
-        Link::RECORD * count
-    } else {
-        records.len()
     }
 }
 
@@ -242,9 +206,9 @@ fn turn(
     records: &mut [u8],
     output: &mut [u8],
 ) -> Run {
-    let link = hand_back_after(run.link, run.last, &mut *pool, &mut *descriptors);
-    let got = feed(engine, link, octets, pool, descriptors, &mut *records);
-    let n = octets_of(got.count, &*records);
+    hand_back_after(run.link, run.last, &mut *pool, &mut *descriptors);
+    let got = feed(engine, run.link, octets, pool, descriptors, &mut *records);
+    let n = lineview_board::octets_of(got.count, &*records);
     let written = put(&records[..n], output, run.written);
     let total = sum(run.total, got.count);
     let next = got.link;

@@ -20,7 +20,7 @@ slice-reshare-prefix-put c = search needs
 slice-aggregate-put : tie.Need-slice-aggregate-put
 slice-aggregate-put c =
     let n = c .before .octets-of in
-    sym (length-take-le (n .result) _ (n .ensures))
+    sym (length-take-le (n .result) _ (n .ensures .0))
 
 put-requires : tie.Need-put-requires
 put-requires c κs = search needs
