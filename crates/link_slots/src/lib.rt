@@ -108,8 +108,21 @@ pub fn hand_back(link: Link, pool: &mut [u8], descriptors: &mut [u16], slot: u16
     if n == 0 {
         memory::release(pool, descriptors, slot);
     }
+    // built anew, since the compiler copies the link once more where it is handed on whole
+    let settings = link.settings;
+    let line = link.line;
+    let units = link.units;
+    let supervision = link.supervision;
+    let transmitter = link.transmitter;
     Answer {
         number: n,
-        link: link,
+        link: Link {
+            opened: link.opened,
+            settings: settings,
+            line: line,
+            units: units,
+            supervision: supervision,
+            transmitter: transmitter,
+        },
     }
 }

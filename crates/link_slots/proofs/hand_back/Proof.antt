@@ -1,9 +1,14 @@
 -- `link_slots::hand_back` meets its contract: refused, or the slot is released.
-use Rattle.link.specs.Refusals.{readNumber}
-use Rattle.link.proofs.Answers.{readable, hand-refused, hand-done}
+use Prim.Native.Nat.{ℕ}
+use mathlib.Core.Path.{_≡_, refl, sym, ap, ap₂, _∙_}
+use mathlib.Core.List.{List}
+use mathlib.Core.Logic.{⊎-elim}
 use native.Mathlib.Omega.{arith}
-use mathlib.Core.Path.{_≡_, refl, sym, _∙_}
+use lib.ListN.{length}
 use borrow.Author.Needs.{needs}
+use Rattle.link.specs.Refusals.{readNumber}
+use Rattle.link.specs.Calls.{Outcome, outcome}
+use Rattle.link.proofs.Answers.{readable, hand-refused, hand-done}
 use Rattle.link_slots.proofs.hand_back.Statement.{statement}
 use Rattle.link_slots.proofs.hand_back.Tie as tie
 
@@ -27,40 +32,26 @@ release-requires c κs =
     (omega (arith, ok .octets, ok .below), omega (arith, ok .words, ok .below))
 
 same-length : tie.Need-same-length
-same-length c = search needs
+same-length c = ⊎-elim (λ w. ap length (w .8) ∙ w .3 .kept .0) (λ w. ap length (w .1)) (c .before .before .before .before .before .if1 .came)
 
 same-length-2 : tie.Need-same-length-2
-same-length-2 c = search needs
+same-length-2 c = ⊎-elim (λ w. ap length (w .9) ∙ w .3 .kept .1 .0) (λ w. ap length (w .2)) (c .before .before .before .before .before .if1 .came)
 
 returns : tie.Need-returns
 returns c =
-    let r = c .before .before .before .before in
-    let t = r .before .before .before in
-    let s = t .before .before .before .before .before .before .before .before .before .before .before .before .before .before .args in
-    hand-done (s .t1) (s .pool .now) (s .descriptors .now) (s .slot) (t .before .number-of .result) (number-is (t .before)) (r .release .last .0) (r .release .last .1 .0) (t .if1 .taken)
-    (r .release .ensures .0) (r .release .ensures .1)
-
-same-length-3 : tie.Need-same-length-3
-same-length-3 c = search needs
-
-same-length-4 : tie.Need-same-length-4
-same-length-4 c = search needs
-
-returns-2 : tie.Need-returns-2
-returns-2 c =
-    let s = c .before .before .before .before .before .before .before .before .before .before .before .before .before .before .args in
-    hand-refused (s .t1) (s .pool .now) (s .descriptors .now) (s .slot) (c .before .number-of .result) (number-is (c .before)) (c .if1 .left)
+    let j = c .before .before .before .before .before in
+    let d = j .before in
+    let s = d .before .before .before .before .before .before .before .before .before .before .before .before .before .args in
+    let n = d .number-of .result in
+    ⊎-elim
+    (λ w.
+    hand-done (s .t1) (s .pool .now) (s .descriptors .now) (s .slot) n (number-is d) (j .if1 .pool) (j .if1 .descriptors) (w .0 .taken)
+    (w .8 ∙ w .3 .ensures .0) (w .9 ∙ w .3 .ensures .1))
+    (λ w.
+    ap₂ {C = Outcome} (outcome n (s .t1)) (w .1) (w .2) ∙ hand-refused (s .t1) (s .pool .now) (s .descriptors .now) (s .slot) n (number-is d) (w .0 .left))
+    (j .if1 .came)
 
 pub hand-back-spec : {M : Type 1} → statement M
 hand-back-spec =
     tie.close
-    (tie.spec
-    is-malformed-requires
-    number-of-requires
-    release-requires
-    same-length
-    same-length-2
-    returns
-    same-length-3
-    same-length-4
-    returns-2)
+    (tie.spec is-malformed-requires number-of-requires release-requires same-length same-length-2 returns)
