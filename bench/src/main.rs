@@ -1,9 +1,11 @@
 //! Times the engines on the same lines: nanoseconds for each line octet. Before that it sees that they all give the same. Then the check of
-//! a content likewise.
+//! a content likewise, the calls one by one, and the program lineview.
 mod board;
+mod calls;
 mod check;
 mod job;
 mod lines;
+mod lineview;
 mod receiver;
 
 use job::{Job, Memory, FILTER, LINK, RECORD};
@@ -65,6 +67,10 @@ fn main() {
     }
     println!();
     check::print_times(SEED);
+    println!();
+    calls::print_times(SEED);
+    println!();
+    lineview::print_times(&lines);
 }
 
 /// Sees that the engines give the same on every line: with each setting of the switches, in parts and cuttings of random lengths.
