@@ -85,7 +85,7 @@ pub fn print_times(seed: u64) {
     let contents = Random(seed).octets(OUTPUT);
     let mut memory = Memory::new(OUTPUT);
     println!("The calls, nanoseconds for each, the minimum of {SWEEPS} sweeps on one link.");
-    println!("{:<21}{:>6}  {:>9}  {:>13}  {:>14}", "call", "octets", "ns a call", "octets put out", "ns for each");
+    println!("{:<21}{:>6}  {:>9}  {:>14}  {:>13}", "call", "octets", "ns a call", "octets put out", "ns for each");
     for call in &CALLS {
         let octets = if call.number < SEND { &[FLAG; 1][..call.octets] } else { &contents[..call.octets] };
         let time = time(call, octets, &mut memory);
