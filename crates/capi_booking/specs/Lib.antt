@@ -1,0 +1,2 @@
+-- The limits that a host can ask for.
+pub mod Limits

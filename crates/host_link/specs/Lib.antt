@@ -1,0 +1,2 @@
+-- The link as a host holds it.
+pub mod Crossing

@@ -1,0 +1,3 @@
+-- The proofs of the promises to a host.
+pub mod Crossing
+pub mod Hosts
