@@ -1,7 +1,7 @@
 -- Four octets at once, by four words of the table.
 use mathlib.Core.Path.{_≡_, refl, sym, ap, ap₂, subst, _∙_}
 use mathlib.Core.List.{List, [], _∷_}
-use Prim.Native.Nat.{ℕ, _+_, _/_, _%_, _≤_, _<_}
+use Prim.Native.Nat.{ℕ, _+_, _-_, _/_, _%_, _≤_, _<_}
 use native.Mathlib.Omega.{arith}
 use lib.Bits.{bitXor, xor-zero-r, xor-comm, xor-lt, xor-shr}
 use lib.ListN.{length, getD}
@@ -116,3 +116,19 @@ next-four s t r i e hb hc hd n (h, l) = (
 
     later : (j j′ q q′ : ℕ) → j + 1 ≡ j′ → j < length s → q′ ≡ fed q (getD s j 0) → Rest s q j → Rest s q′ j′
     later j j′ q q′ k m f o = subst (Rest s q′) k (next s q j q′ m f o)
+
+-- ---- where four octets more are left
+pub record Four-left (i n : ℕ) : Type 0 where
+  pub first : i < n
+  pub second : i + 1 < n
+  pub third : i + 2 < n
+  pub fourth : i + 3 < n
+  pub all : i + 4 ≤ n
+  pub fewer : n - (i + 4) < n - i
+
+pub four-left : (i n : ℕ) → 4 ≤ n - i → Four-left i n
+four-left i n h =
+    record { first = omega arith; second = omega arith; third = omega arith; fourth = omega arith; all = omega arith; fewer = omega arith }
+
+pub in-table : (b x : ℕ) → b ≤ 768 → x < 256 → b + x < 1024
+in-table b x h k = omega arith

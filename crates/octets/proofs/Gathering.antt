@@ -6,6 +6,7 @@ use mathlib.Core.List.{List, _++_, append-assoc, append-nil}
 use native.Mathlib.Omega.{arith}
 use lib.ListN.{length, getD, take, set}
 use Rattle.bits.specs.Octets.{bitsOf, lineBits, octetOf, packed}
+use Rattle.bits.proofs.Packing.{held-length}
 use Rattle.framing.specs.declared.Line.{Line}
 use Rattle.framing.specs.Representation.{lineOf}
 use Rattle.octets.specs.Rows.{runOver, kept}
@@ -28,6 +29,12 @@ joined wait have row = wait + row % 256 * 2 ^ have % 4294967296
 pub record Gathering (octets : List ℕ) (run : ℕ) (g : List Bool) (area : List ℕ) (base n have wait at end : ℕ) : Type 0 where
   pub passing : Passing octets run base at end
   pub joining : Joining area n have wait (gatheredAt octets run g at)
+
+-- the bits that stand in the area at the start: as many as are said, and with all octets no more than it holds
+pub at-start : (octets area : List ℕ) (bits : ℕ) → bits + 8 * length octets ≤ 2231 → area ≡ packed 279 (take bits (lineBits area))
+    → (length (take bits (lineBits area)) ≡ bits) × (length (take bits (lineBits area)) + 8 * length octets ≤ 2231) × (bits ≤ 2231)
+at-start octets area bits h e =
+    let l : length (take bits (lineBits area)) ≡ bits = held-length 279 bits area (omega arith) e in (l, omega arith, omega arith)
 
 module _ (octets : List ℕ) (run : ℕ) (g : List Bool) where
   pub none-gathered : (area : List ℕ) (bits : ℕ) → bits ≤ 2231 → run ≤ 7 → length g ≡ bits → area ≡ packed 279 g

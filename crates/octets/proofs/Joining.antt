@@ -31,6 +31,28 @@ pub record Joining (area : List ℕ) (n have wait : ℕ) (g : List Bool) : Type 
   pub waits : wait ≡ octetOf (bitsAfter g)
   pub stands : set area n wait ≡ packed 279 g
 
+-- what its numbers stay below
+pub record Sizes (n have : ℕ) : Type 0 where
+  pub place : n < 279
+  pub next : n + 1 < 280
+  pub part : have < 8
+  pub whole : 8 * n < 2232
+  pub held : 8 * n + have < 2232
+
+pub sizes : {area : List ℕ} {n have wait : ℕ} {g : List Bool} → Joining area n have wait g → Sizes n have
+sizes J =
+    record {
+      place = omega (arith, J .room, J .whole);
+      next = omega (arith, J .room, J .whole);
+      part = omega (arith, J .part);
+      whole = omega (arith, J .room, J .whole);
+      held = omega (arith, J .room, J .whole, J .part);
+    }
+
+-- with what a row adds
+pub more-held : (have row : ℕ) → have < 8 → row < 16777216 → have + row / 65536 < 264
+more-held have row h k = omega arith
+
 pub joining-starts : (area : List ℕ) (bits : ℕ) (g : List Bool) → length g ≡ bits → bits ≤ 2231 → area ≡ packed 279 g
     → Joining area (bits / 8) (bits % 8) (getD area (bits / 8) 0) g
 joining-starts area bits g l h e =

@@ -1,5 +1,5 @@
 -- Octets passed by their rows, as both loops pass them: the run so far, and that no flag and no abort has ended.
-use Prim.Native.Nat.{ℕ, _+_, _*_, _/_, _%_, _≤_, _<_}
+use Prim.Native.Nat.{ℕ, _+_, _*_, _/_, _%_, _≤_, _<_, _-_}
 use mathlib.Core.Path.{_≡_, refl, sym, ap, subst, _∙_}
 use mathlib.Core.Bool.{Bool, true}
 use mathlib.Core.List.{List, [], _∷_, _++_, append-nil}
@@ -101,3 +101,28 @@ module _ (octets : List ℕ) (run : ℕ) where
 
       pub kept-more : kept run (lineBits (take (at + 1) octets)) ≡ kept run (lineBits (take at octets)) ++ kept (runOver run (lineBits (take at octets))) (bitsOf 8 x)
       kept-more = ap (kept run) bits-more ∙ kept-append run (lineBits (take at octets)) (bitsOf 8 x)
+
+-- ---- what the loops' numbers stay below
+module _ {octets : List ℕ} {run base at end : ℕ} (p : Passing octets run base at end) where
+  pub in-octets : at < end → at < length octets
+  in-octets h = omega (arith, p .end≤)
+
+  -- of few octets
+  pub next-small : (bits : ℕ) → bits + 8 * length octets ≤ 2231 → at < end → at + 1 < 280
+  next-small bits h k = omega (arith, p .end≤)
+
+  pub row-place : (x : ℕ) → x < 256 → base + x < 2048
+  row-place x h = omega (arith, base-small octets run base at end p)
+
+  pub run-small : base / 256 < 8
+  run-small = omega (arith, base-small octets run base at end p)
+
+pub run-place : (y : ℕ) → y % 8 * 256 < 2048
+run-place y = omega arith
+
+-- what is left falls with an octet more, and where the loop stops
+pub one-less : (at end : ℕ) → at < end → end - (at + 1) < end - at
+one-less at end h = omega arith
+
+pub none-left : (at end : ℕ) → at < end → at - at < end - at
+none-left at end h = omega arith

@@ -1,11 +1,16 @@
 -- `fcs::check_by_table` meets its contract: the octets that are left, fed to the register, give the whole, and the table's words are those of the octets' bits.
-use Prim.Native.Nat.{_+_, _-_, _/_, _<_}
+use Prim.Native.Nat.{ℕ, _+_, _-_, _/_, _≤_, _<_}
+use native.Mathlib.Nat.{le-of-lt, lt-of-lt-of-le, mod-lt}
 use native.Mathlib.Omega.{arith}
+use mir.Syntax.{w64}
+use mir.Val.{Fits}
+use borrow.Author.Needs.{fits-under, scaled-fits}
+use lib.Dec.{lit<, lit≤}
 use lib.Bits.{bitXor}
 use lib.ListN.{length, getD}
 use Rattle.fcs.proofs.Rest.{Rest, next, done}
 use Rattle.fcs.proofs.Octetwise.{octet-by-lent}
-use Rattle.fcs.proofs.Fours.{high-lt, Within, start-within, next-four}
+use Rattle.fcs.proofs.Fours.{high-lt, Within, start-within, next-four, Four-left, four-left, in-table}
 use Rattle.fcs.proofs.check_by_table.Statement.{statement}
 use Rattle.fcs.proofs.check_by_table.Tie as tie
 
@@ -27,32 +32,38 @@ loop-holds c = start-within (c .args .octets .now)
 sub-loop : tie.Need-sub-loop Inv-loop μ-loop Inv-loop2 μ-loop2
 sub-loop c = c .loop .inv .1 .0
 
+four : (c : tie.In-loop Inv-loop μ-loop Inv-loop2 μ-loop2) → Four-left (c .before .loop .at) (length (c .before .before .args .octets .now))
+four c = four-left _ _ (c .loop-test .taken)
+
+within-octets : (c : tie.In-loop Inv-loop μ-loop Inv-loop2 μ-loop2) (i : ℕ) → i ≤ length (c .before .before .args .octets .now) → Fits w64 i
+within-octets c i h = omega arith
+
 shared-slice-read-low : tie.Need-shared-slice-read-low Inv-loop μ-loop Inv-loop2 μ-loop2
-shared-slice-read-low c = omega arith
+shared-slice-read-low c = four (c .before) .first
 
 cast-low : tie.Need-cast-low Inv-loop μ-loop Inv-loop2 μ-loop2
-cast-low c = omega (arith, c .shared-slice-known .given (c .before .before .loop .at))
+cast-low c = fits-under _ _ 256 (c .shared-slice-known .given (c .before .before .loop .at) .fits) tt
 
 add-high : tie.Need-add-high Inv-loop μ-loop Inv-loop2 μ-loop2
-add-high c = omega arith
+add-high c = let d = c .before in within-octets d _ (le-of-lt (four d .second))
 
 shared-slice-read-high : tie.Need-shared-slice-read-high Inv-loop μ-loop Inv-loop2 μ-loop2
-shared-slice-read-high c = omega arith
+shared-slice-read-high c = four (c .before .before) .second
 
 cast-high : tie.Need-cast-high Inv-loop μ-loop Inv-loop2 μ-loop2
-cast-high c = omega (arith, c .shared-slice-known2 .given (c .before .before .before .loop .at + 1))
+cast-high c = fits-under _ _ 256 (c .shared-slice-known2 .given (c .before .before .before .loop .at + 1) .fits) tt
 
 cast-register : tie.Need-cast-register Inv-loop μ-loop Inv-loop2 μ-loop2
-cast-register c = omega arith
-
-add-register : tie.Need-add-register Inv-loop μ-loop Inv-loop2 μ-loop2
-add-register c = omega arith
-
-mul-register : tie.Need-mul-register Inv-loop μ-loop Inv-loop2 μ-loop2
-mul-register c = omega arith
+cast-register c = fits-under _ _ 256 (mod-lt _ (lit< tt)) tt
 
 element-copy-out-register : tie.Need-element-copy-out-register Inv-loop μ-loop Inv-loop2 μ-loop2
-element-copy-out-register c = omega arith
+element-copy-out-register c = in-table 768 _ (lit≤ tt) (mod-lt _ (lit< tt))
+
+add-register : tie.Need-add-register Inv-loop μ-loop Inv-loop2 μ-loop2
+add-register c = fits-under _ _ 1024 (element-copy-out-register c) tt
+
+mul-register : tie.Need-mul-register Inv-loop μ-loop Inv-loop2 μ-loop2
+mul-register c = scaled-fits _ 1024 2 (element-copy-out-register c) (lit< tt)
 
 high :
     (c : tie.After-register Inv-loop μ-loop Inv-loop2 μ-loop2)
@@ -61,92 +72,92 @@ high :
     bitXor (l .register / 256) (getD s (l .at + 1) 0) < 256
 high c =
     let l = c .before .before .before .before .loop in
-    high-lt (l .register) _ (l .inv .0) (omega (arith, c .before .shared-slice-known2 .given (l .at + 1)))
+    high-lt (l .register) _ (l .inv .0) (c .before .shared-slice-known2 .given (l .at + 1) .fits)
 
 cast-register-2 : tie.Need-cast-register-2 Inv-loop μ-loop Inv-loop2 μ-loop2
-cast-register-2 c = omega (arith, high c)
-
-add-register-2 : tie.Need-add-register-2 Inv-loop μ-loop Inv-loop2 μ-loop2
-add-register-2 c = omega (arith, high c)
-
-mul-register-2 : tie.Need-mul-register-2 Inv-loop μ-loop Inv-loop2 μ-loop2
-mul-register-2 c = omega (arith, high c)
+cast-register-2 c = fits-under _ _ 256 (high c) tt
 
 element-copy-out-register-2 :
     tie.Need-element-copy-out-register-2 Inv-loop μ-loop Inv-loop2 μ-loop2
-element-copy-out-register-2 c = omega (arith, high c)
+element-copy-out-register-2 c = in-table 512 _ (lit≤ tt) (high c)
+
+add-register-2 : tie.Need-add-register-2 Inv-loop μ-loop Inv-loop2 μ-loop2
+add-register-2 c = fits-under _ _ 1024 (element-copy-out-register-2 c) tt
+
+mul-register-2 : tie.Need-mul-register-2 Inv-loop μ-loop Inv-loop2 μ-loop2
+mul-register-2 c = scaled-fits _ 1024 2 (element-copy-out-register-2 c) (lit< tt)
 
 add-register-3 : tie.Need-add-register-3 Inv-loop μ-loop Inv-loop2 μ-loop2
-add-register-3 c = omega arith
+add-register-3 c = let d = c .before .before .before .before in within-octets d _ (le-of-lt (four d .third))
 
 shared-slice-read-register : tie.Need-shared-slice-read-register Inv-loop μ-loop Inv-loop2 μ-loop2
-shared-slice-read-register c = omega arith
+shared-slice-read-register c = four (c .before .before .before .before .before) .third
 
 cast-register-3 : tie.Need-cast-register-3 Inv-loop μ-loop Inv-loop2 μ-loop2
-cast-register-3 c = omega (arith, c .shared-slice-known3 .given (c .before .before .before .before .before .before .loop .at + 2))
-
-add-register-4 : tie.Need-add-register-4 Inv-loop μ-loop Inv-loop2 μ-loop2
-add-register-4 c = omega (arith, c .shared-slice-known3 .given (c .before .before .before .before .before .before .loop .at + 2))
-
-mul-register-3 : tie.Need-mul-register-3 Inv-loop μ-loop Inv-loop2 μ-loop2
-mul-register-3 c = omega (arith, c .shared-slice-known3 .given (c .before .before .before .before .before .before .loop .at + 2))
+cast-register-3 c = fits-under _ _ 256 (c .shared-slice-known3 .given (c .before .before .before .before .before .before .loop .at + 2) .fits) tt
 
 element-copy-out-register-3 :
     tie.Need-element-copy-out-register-3 Inv-loop μ-loop Inv-loop2 μ-loop2
-element-copy-out-register-3 c = omega (arith, c .shared-slice-known3 .given (c .before .before .before .before .before .before .loop .at + 2))
+element-copy-out-register-3 c = in-table 256 _ (lit≤ tt) (c .shared-slice-known3 .given (c .before .before .before .before .before .before .loop .at + 2) .fits)
+
+add-register-4 : tie.Need-add-register-4 Inv-loop μ-loop Inv-loop2 μ-loop2
+add-register-4 c = fits-under _ _ 1024 (element-copy-out-register-3 c) tt
+
+mul-register-3 : tie.Need-mul-register-3 Inv-loop μ-loop Inv-loop2 μ-loop2
+mul-register-3 c = scaled-fits _ 1024 2 (element-copy-out-register-3 c) (lit< tt)
 
 add-register-5 : tie.Need-add-register-5 Inv-loop μ-loop Inv-loop2 μ-loop2
-add-register-5 c = omega arith
+add-register-5 c = let d = c .before .before .before .before .before .before in within-octets d _ (le-of-lt (four d .fourth))
 
 shared-slice-read-register-2 :
     tie.Need-shared-slice-read-register-2 Inv-loop μ-loop Inv-loop2 μ-loop2
-shared-slice-read-register-2 c = omega arith
+shared-slice-read-register-2 c = four (c .before .before .before .before .before .before .before) .fourth
 
 cast-register-4 : tie.Need-cast-register-4 Inv-loop μ-loop Inv-loop2 μ-loop2
-cast-register-4 c = omega (arith, c .shared-slice-known4 .given (c .before .before .before .before .before .before .before .before .loop .at + 3))
-
-mul-register-4 : tie.Need-mul-register-4 Inv-loop μ-loop Inv-loop2 μ-loop2
-mul-register-4 c = omega (arith, c .shared-slice-known4 .given (c .before .before .before .before .before .before .before .before .loop .at + 3))
+cast-register-4 c = fits-under _ _ 256 (c .shared-slice-known4 .given (c .before .before .before .before .before .before .before .before .loop .at + 3) .fits) tt
 
 element-copy-out-register-4 :
     tie.Need-element-copy-out-register-4 Inv-loop μ-loop Inv-loop2 μ-loop2
-element-copy-out-register-4 c = omega (arith, c .shared-slice-known4 .given (c .before .before .before .before .before .before .before .before .loop .at + 3))
+element-copy-out-register-4 c = lt-of-lt-of-le (c .shared-slice-known4 .given (c .before .before .before .before .before .before .before .before .loop .at + 3) .fits) (lit≤ tt)
+
+mul-register-4 : tie.Need-mul-register-4 Inv-loop μ-loop Inv-loop2 μ-loop2
+mul-register-4 c = scaled-fits _ 1024 2 (element-copy-out-register-4 c) (lit< tt)
 
 add-at : tie.Need-add-at Inv-loop μ-loop Inv-loop2 μ-loop2
-add-at c = omega arith
+add-at c = let d = c .before .before .before .before .before .before .before .before in within-octets d _ (four d .all)
 
 loop-less : tie.Need-loop-less Inv-loop μ-loop Inv-loop2 μ-loop2
-loop-less c = omega arith
+loop-less c = four (c .before .before .before .before .before .before .before .before) .fewer
 
 loop-again : tie.Need-loop-again Inv-loop μ-loop Inv-loop2 μ-loop2
 loop-again c =
     let l = c .before .before .before .before .before .before .before .before .before .loop in
     let b = c .before .before .before .before .before .before .before .before .before .before in
     next-four (b .args .octets .now) (b .args .table .now) (l .register) (l .at) (b .pre)
-    (omega (arith, c .before .before .before .before .before .before .shared-slice-known2 .given (l .at + 1)))
-    (omega (arith, c .before .before .before .shared-slice-known3 .given (l .at + 2)))
-    (omega (arith, c .before .shared-slice-known4 .given (l .at + 3)))
-    (omega arith) (l .inv)
+    (c .before .before .before .before .before .before .shared-slice-known2 .given (l .at + 1) .fits)
+    (c .before .before .before .shared-slice-known3 .given (l .at + 2) .fits)
+    (c .before .shared-slice-known4 .given (l .at + 3) .fits)
+    (four (c .before .before .before .before .before .before .before .before) .all) (l .inv)
 
 loop2-holds : tie.Need-loop2-holds Inv-loop μ-loop Inv-loop2 μ-loop2
 loop2-holds c = c .before .loop .inv .1
 
 shared-slice-read-register-3 :
     tie.Need-shared-slice-read-register-3 Inv-loop μ-loop Inv-loop2 μ-loop2
-shared-slice-read-register-3 c = omega arith
+shared-slice-read-register-3 c = c .before .loop2-test .taken
 
 cast-register-5 : tie.Need-cast-register-5 Inv-loop μ-loop Inv-loop2 μ-loop2
-cast-register-5 c = omega (arith, c .shared-slice-known5 .given (c .before .before .loop2 .at))
+cast-register-5 c = fits-under _ _ 256 (c .shared-slice-known5 .given (c .before .before .loop2 .at) .fits) tt
 
 cast-register-6 : tie.Need-cast-register-6 Inv-loop μ-loop Inv-loop2 μ-loop2
-cast-register-6 c = omega arith
+cast-register-6 c = fits-under _ _ 256 (mod-lt _ (lit< tt)) tt
 
 mul-register-5 : tie.Need-mul-register-5 Inv-loop μ-loop Inv-loop2 μ-loop2
-mul-register-5 c = omega arith
+mul-register-5 c = scaled-fits _ 256 2 (mod-lt _ (lit< tt)) (lit< tt)
 
 element-copy-out-register-5 :
     tie.Need-element-copy-out-register-5 Inv-loop μ-loop Inv-loop2 μ-loop2
-element-copy-out-register-5 c = omega arith
+element-copy-out-register-5 c = lt-of-lt-of-le (mod-lt _ (lit< tt)) (lit≤ tt)
 
 add-at-2 : tie.Need-add-at-2 Inv-loop μ-loop Inv-loop2 μ-loop2
 add-at-2 c = omega arith
@@ -159,7 +170,7 @@ loop2-again c =
     let l = c .before .before .before .loop2 in
     let b = c .before .before .before .before .before .before in
     let s = b .args .octets .now in
-    next s (l .register) (l .at) _ (omega arith)
+    next s (l .register) (l .at) _ (c .before .before .loop2-test .taken)
     (octet-by-lent (b .args .table .now) (b .pre) (l .register) (getD s (l .at) 0)) (l .inv)
 
 returns : tie.Need-returns Inv-loop μ-loop Inv-loop2 μ-loop2
