@@ -130,7 +130,8 @@ impl Host {
     fn receive(&mut self, words: &mut Words, call: Receive) -> Option<Answer> {
         let (octets, count, room, line) = (words.number()?, words.number()?, words.number()?, words.octets()?);
         let (pool, descriptors) = (self.pool.get_mut(..octets)?, self.descriptors.get_mut(..count)?);
-        let written = call(&mut self.link, &line, pool, descriptors, self.records.get_mut(..room)?).map(|records| records.len());
+        // Counted by taking each record apart, so that none may break a record's rules.
+        let written = call(&mut self.link, &line, pool, descriptors, self.records.get_mut(..room)?).map(Iterator::count);
         Some(Answer { records: Some(room), ..Answer::counted(written).lent(octets, count) })
     }
 
