@@ -10,7 +10,7 @@ use Rattle.capi_booking.specs.declared.limits.Events.{Events}
 use Rattle.capi_booking.specs.declared.limits.HostLimits.{HostLimits}
 
 abbrev pub statusWords : Statuses
-statusWords = record { empty = statusWord Empty; good = statusWord Good; wrong = statusWord CheckWrong; broken = statusWord NotWhole }
+statusWords = record { empty = statusWord Empty; good = statusWord Good; «check_wrong» = statusWord CheckWrong; «not_whole» = statusWord NotWhole }
 
 abbrev pub eventWords : Events
 eventWords =

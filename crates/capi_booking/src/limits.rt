@@ -12,8 +12,8 @@ ghost use Rattle.capi_booking.specs.Limits.{statusWords, eventWords, hos
 pub struct Statuses {
     pub empty: u16,
     pub good: u16,
-    pub wrong: u16,
-    pub broken: u16,
+    pub check_wrong: u16,
+    pub not_whole: u16,
 }
 
 // The nine event bits, as words with that bit alone.
@@ -44,13 +44,13 @@ fn status_words() -> Statuses
 {
     let empty = board::limits::status_word(Status::Empty);
     let good = board::limits::status_word(Status::Good);
-    let wrong = board::limits::status_word(Status::CheckWrong);
-    let broken = board::limits::status_word(Status::NotWhole);
+    let check_wrong = board::limits::status_word(Status::CheckWrong);
+    let not_whole = board::limits::status_word(Status::NotWhole);
     Statuses {
         empty: empty,
         good: good,
-        wrong: wrong,
-        broken: broken,
+        check_wrong: check_wrong,
+        not_whole: not_whole,
     }
 }
 

@@ -18,15 +18,15 @@ use Rattle.host_link.specs.Crossing.{givenSettings, fromHost, toHost, givenBack
 use Rattle.host_link.specs.declared.answers.HostPart.{HostPart}
 use Rattle.host_calls.specs.Answers.{Answered, hostAnswer, offsetOf, hostPart}
 
--- an answer with the link as a host holds it
-abbrev shown : Answer → HostLink → Answered
-shown a b = record { number = a .number; link = b; count = a .count; part = a .part; lent = a .lent }
+-- an answer with a host's link in the place of its own
+abbrev withHostLink : Answer → HostLink → Answered
+withHostLink a b = record { number = a .number; link = b; count = a .count; part = a .part; lent = a .lent }
 
 host-answer : (h : HostLink) (c : Call) (l : Link) (a : Answer) (b : HostLink) → l ≡ fromHost h → a ≡ answer l c → b ≡ givenBack h (a .number) (a .link)
-    → shown a b ≡ hostAnswer h c
+    → withHostLink a b ≡ hostAnswer h c
 host-answer h c l a b el ea eb =
     let e : a ≡ answer (fromHost h) c = ea ∙ ap (λ (x : Link). answer x c) el in
-    ap (shown a) eb ∙ ap (λ (x : Answer). shown x (givenBack h (x .number) (x .link))) e
+    ap (withHostLink a) eb ∙ ap (λ (x : Answer). withHostLink x (givenBack h (x .number) (x .link))) e
 
 -- the answers of the calls' own shapes as one
 abbrev ofOutcome : Outcome → Answer
@@ -45,35 +45,35 @@ ofOutput contents o = record { number = o .number; link = o .link; count = o .co
 module _ (h : HostLink) (l : Link) (el : l ≡ fromHost h) where
   pub open-is : (given : HostSettings) (s : Settings) (pool descriptors : List ℕ) (o : Outcome) (b : HostLink) → s ≡ givenSettings given
       → o ≡ openAnswer l s pool descriptors → b ≡ givenBack h (o .number) (o .link)
-      → shown (ofOutcome o) b ≡ hostAnswer h (opens (givenSettings given) pool descriptors)
+      → withHostLink (ofOutcome o) b ≡ hostAnswer h (opens (givenSettings given) pool descriptors)
   open-is given s pool descriptors o b es eo eb =
       host-answer h (opens (givenSettings given) pool descriptors) l (ofOutcome o) b el
       (ap ofOutcome (eo ∙ ap (λ (x : Settings). openAnswer l x pool descriptors) es)) eb
 
   pub hand-is : (pool descriptors : List ℕ) (slot : ℕ) (o : Outcome) (b : HostLink) → o ≡ handAnswer l pool descriptors slot
-      → b ≡ givenBack h (o .number) (o .link) → shown (ofOutcome o) b ≡ hostAnswer h (handBack pool descriptors slot)
+      → b ≡ givenBack h (o .number) (o .link) → withHostLink (ofOutcome o) b ≡ hostAnswer h (handBack pool descriptors slot)
   hand-is pool descriptors slot o b eo eb = host-answer h (handBack pool descriptors slot) l (ofOutcome o) b el (ap ofOutcome eo) eb
 
   pub command-is : (n : ℕ) (o : NumberAndLink) (b : HostLink) → o ≡ commandAnswer l n → b ≡ givenBack h (o .number) (o .link)
-      → shown (ofNumber o) b ≡ hostAnswer h (command n)
+      → withHostLink (ofNumber o) b ≡ hostAnswer h (command n)
   command-is n o b eo eb = host-answer h (command n) l (ofNumber o) b el (ap ofNumber eo) eb
 
   pub clear-is : (chosen : ℕ) (o : NumberAndLink) (b : HostLink) → o ≡ clearAnswer l chosen → b ≡ givenBack h (o .number) (o .link)
-      → shown (ofNumber o) b ≡ hostAnswer h (clear chosen)
+      → withHostLink (ofNumber o) b ≡ hostAnswer h (clear chosen)
   clear-is chosen o b eo eb = host-answer h (clear chosen) l (ofNumber o) b el (ap ofNumber eo) eb
 
   pub receive-is : (octets pool descriptors records : List ℕ) (o : ReceiveOutcome) (b : HostLink) → o ≡ receiveAnswer l octets pool descriptors records
-      → b ≡ givenBack h (o .number) (o .link) → shown (ofReceived octets o) b ≡ hostAnswer h (receive octets pool descriptors records)
+      → b ≡ givenBack h (o .number) (o .link) → withHostLink (ofReceived octets o) b ≡ hostAnswer h (receive octets pool descriptors records)
   receive-is octets pool descriptors records o b eo eb =
       host-answer h (receive octets pool descriptors records) l (ofReceived octets o) b el (ap (ofReceived octets) eo) eb
 
   pub send-is : (content output : List ℕ) (o : OutputOutcome) (b : HostLink) → o ≡ sendAnswer l content output → b ≡ givenBack h (o .number) (o .link)
-      → shown (ofOutput (content ∷ o .output ∷ []) o) b ≡ hostAnswer h (send content output)
+      → withHostLink (ofOutput (content ∷ o .output ∷ []) o) b ≡ hostAnswer h (send content output)
   send-is content output o b eo eb =
       host-answer h (send content output) l (ofOutput (content ∷ o .output ∷ []) o) b el (ap (λ (x : OutputOutcome). ofOutput (content ∷ x .output ∷ []) x) eo) eb
 
   pub fill-is : (output : List ℕ) (o : OutputOutcome) (b : HostLink) → o ≡ fillAnswer l output → b ≡ givenBack h (o .number) (o .link)
-      → shown (ofOutput (o .output ∷ []) o) b ≡ hostAnswer h (fill output)
+      → withHostLink (ofOutput (o .output ∷ []) o) b ≡ hostAnswer h (fill output)
   fill-is output o b eo eb =
       host-answer h (fill output) l (ofOutput (o .output ∷ []) o) b el (ap (λ (x : OutputOutcome). ofOutput (x .output ∷ []) x) eo) eb
 

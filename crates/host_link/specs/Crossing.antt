@@ -36,8 +36,8 @@ ofMode Alignment = 2
 ofMode Idle = 3
 
 -- the three switches of settings are switches
-abbrev pub switchesOf : HostSettings → Bool
-switchesOf s = (isSwitch (s .filter) && isSwitch (s .itu)) && isSwitch (s .orn)
+abbrev pub areSwitches : HostSettings → Bool
+areSwitches s = (isSwitch (s .filter) && isSwitch (s .itu)) && isSwitch (s .orn)
 
 abbrev pub settingsOf : HostSettings → Settings
 settingsOf s =
@@ -56,12 +56,12 @@ settingsOf s =
 
 -- Settings that a host gives. Where a switch is none, that setting is out of range: they are taken as all zero, which open refuses with 4.
 unfoldable pub givenSettings : HostSettings → Settings
-givenSettings s = cond (switchesOf s) (settingsOf s) newSettings
+givenSettings s = cond (areSwitches s) (settingsOf s) newSettings
 
 -- every switch of a link is a switch, and its mode a mode
 unfoldable pub readable : HostLink → Bool
 readable h =
-    (((((((switchesOf (h .settings) && isSwitch (h .memory .alike)) && isSwitch (h .line .hunting)) && isSwitch (h .transmitter .flagged))
+    (((((((areSwitches (h .settings) && isSwitch (h .memory .alike)) && isSwitch (h .line .hunting)) && isSwitch (h .transmitter .flagged))
     && isSwitch (h .transmitter .sent)) && isSwitch (h .opened)) && isSwitch (h .counting)) && isMode (h .mode))
 
 abbrev pub transmitterOf : HostTransmitter → Transmitter

@@ -17,7 +17,7 @@ pub mod answers;
 mod numbers;
 
 ghost use mathlib.Core.Path.{_≡_};
-ghost use Rattle.host_link.specs.Crossing.{switchesOf, settingsOf, givenSettings, transmitterOf, linkOfFields, unreadLink, readable, fromHost, hostSettings, hostTransmitter, toHost, givenBack};
+ghost use Rattle.host_link.specs.Crossing.{areSwitches, settingsOf, givenSettings, transmitterOf, linkOfFields, unreadLink, readable, fromHost, hostSettings, hostTransmitter, toHost, givenBack};
 
 // What a booking says; the three switches are 0 or 1.
 #[repr(C)]
@@ -88,7 +88,7 @@ pub struct HostLink {
 
 // Whether the three switches of settings are switches.
 fn are_switches(s: HostSettings) -> bool
-    ensures { λ r. ⌜ r ≡ switchesOf s ⌝ }
+    ensures { λ r. ⌜ r ≡ areSwitches s ⌝ }
 {
     (s.filter <= 1) & (s.itu <= 1) & (s.orn <= 1)
 }

@@ -6,7 +6,7 @@ use Rattle.board.specs.declared.Link.{Link}
 use Rattle.board.specs.Malformed.{inRange, malformed}
 use Rattle.host_link.specs.declared.HostSettings.{HostSettings}
 use Rattle.host_link.specs.declared.HostLink.{HostLink}
-use Rattle.host_link.specs.Crossing.{switchesOf, givenSettings, readable, fromHost, toHost}
+use Rattle.host_link.specs.Crossing.{areSwitches, givenSettings, readable, fromHost, toHost}
 
 -- Nothing of a link is lost on its way to a host and back.
 abbrev pub LinkAndBack : Type 0
@@ -22,4 +22,4 @@ UnreadIsMalformed = (h : HostLink) → readable h ≡ false → malformed (fromH
 
 -- Settings with a switch that is none are out of range.
 abbrev pub NoSwitchNoRange : Type 0
-NoSwitchNoRange = (s : HostSettings) → switchesOf s ≡ false → inRange basic (givenSettings s) ≡ false
+NoSwitchNoRange = (s : HostSettings) → areSwitches s ≡ false → inRange basic (givenSettings s) ≡ false
