@@ -1,4 +1,7 @@
 // The calls of a host, each made many times on one link of its own, for a program that times them: slices and numbers only.
+
+#![tactic(auto)]
+
 use board::Link;
 
 // The length of the unit that is read and handed back.

@@ -1,5 +1,7 @@
 // The engine receive in a library of its own, as a host links it: a whole line through one link.
 
+#![tactic(auto)]
+
 // See `run_line` of bench_run: how many records came.
 #[unsafe(no_mangle)]
 pub extern "C" fn bench_receive(

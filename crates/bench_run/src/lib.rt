@@ -1,4 +1,7 @@
 // A whole line through one link of its own, for crates that export it to programs that measure or compare: slices and numbers only.
+
+#![tactic(auto)]
+
 ghost use Rattle.std.specs.Prelude.{◌≤◌, ◌<◌, ◌+◌, length};
 
 use board::{Link, Settings};
@@ -6,7 +9,7 @@ use input::Received;
 use monitor::Mode;
 
 // Where a run stands: the link, the records of the last call, those of all calls, and how far the output area is written.
-#[derive(Drop)]
+#[derive(Clone, Copy)]
 struct Run {
     link: Link,
     last: usize,

@@ -5,7 +5,7 @@ ghost use Rattle.board.specs.Events.{event_bit};
 use crate::Link;
 
 // What sets an event bit, in the order of the bits.
-#[derive(Drop)]
+#[derive(Clone, Copy)]
 pub enum Event {
     HandedOver,
     Busy,

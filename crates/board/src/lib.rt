@@ -1,4 +1,7 @@
 // The link as a value: its parts, the new link, the limits by name, the ready settings, and when a link is malformed.
+
+#![tactic(auto)]
+
 use filter::Memory;
 use framing::Line;
 use monitor::Monitor;
@@ -12,7 +15,7 @@ ghost use Rattle.board.specs.Link.{new_link, new_line, clear_area, new_settings,
 
 // What a booking says: K slots, the longest unit M, N, T, D and A, the mask, and the three switches.
 #[repr(C)]
-#[derive(Drop)]
+#[derive(Clone, Copy)]
 pub struct Settings {
     pub k: u16,
     pub m: u16,
@@ -28,7 +31,7 @@ pub struct Settings {
 
 // The receiver of line bits: its small state and the gathering area.
 #[repr(C)]
-#[derive(Drop)]
+#[derive(Clone, Copy)]
 pub struct Gathering {
     pub state: Line,
     pub area: [u8; 279],
@@ -36,7 +39,7 @@ pub struct Gathering {
 
 // Octet counting: whether it is on, and N's counter, which runs at all times.
 #[repr(C)]
-#[derive(Drop)]
+#[derive(Clone, Copy)]
 pub struct Counting {
     pub on: bool,
     pub left: u16,
@@ -44,14 +47,14 @@ pub struct Counting {
 
 // The slot that the next unit goes to.
 #[repr(C)]
-#[derive(Drop)]
+#[derive(Clone, Copy)]
 pub struct Slots {
     pub next: u16,
 }
 
 // Good units, and of those the units handed over, dropped and lost; each goes round to 0 after 65,535.
 #[repr(C)]
-#[derive(Drop)]
+#[derive(Clone, Copy)]
 pub struct Counts {
     pub good: u16,
     pub over: u16,
@@ -61,7 +64,7 @@ pub struct Counts {
 
 // The sender between calls: whether a flag has gone, the waiting bits, and the last content's first two octets, if content was sent.
 #[repr(C)]
-#[derive(Drop)]
+#[derive(Clone, Copy)]
 pub struct Transmitter {
     pub flagged: bool,
     pub count: u8,
@@ -72,7 +75,7 @@ pub struct Transmitter {
 
 // What deals with units: octet counting, the filter's memory, the next slot, the counts.
 #[repr(C)]
-#[derive(Drop)]
+#[derive(Clone, Copy)]
 pub struct UnitState {
     pub counting: Counting,
     pub memory: Memory,
@@ -81,13 +84,13 @@ pub struct UnitState {
 }
 
 // The monitor and the event bits.
-#[derive(Drop)]
+#[derive(Clone, Copy)]
 pub struct Supervision {
     pub monitor: Monitor,
     pub events: u16,
 }
 
-#[derive(Drop)]
+#[derive(Clone, Copy)]
 pub struct Link {
     pub opened: bool,
     pub settings: Settings,

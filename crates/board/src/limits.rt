@@ -8,7 +8,7 @@ use crate::Link;
 use memory::Status;
 
 #[repr(C)]
-#[derive(Drop)]
+#[derive(Clone, Copy)]
 pub struct Range {
     pub least: usize,
     pub most: usize,
@@ -17,7 +17,7 @@ pub struct Range {
 // Octets of a slot; slots; longest unit M; N, T, D and A; line octets of a receive; octets of a record, and of the records for one line
 // octet; octets of an output area; octets of content.
 #[repr(C)]
-#[derive(Drop)]
+#[derive(Clone, Copy)]
 pub struct Sizes {
     pub slot: usize,
     pub slots: Range,

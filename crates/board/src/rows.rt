@@ -4,7 +4,7 @@ ghost use Rattle.board.specs.Rows.{row_start, row_of};
 
 // The numbers of one row.
 #[repr(C)]
-#[derive(Drop)]
+#[derive(Clone, Copy)]
 pub struct Row {
     pub m: u16,
     pub n: u16,

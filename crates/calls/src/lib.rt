@@ -1,4 +1,7 @@
 // The calls of a host, in one place. Each takes the link by value and gives it back. Their contracts stand where they are defined.
+
+#![tactic(auto)]
+
 pub use board::limits::link_sizes;
 pub use board::rows::numbers;
 pub use board::{Link, Settings};

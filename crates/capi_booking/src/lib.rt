@@ -1,4 +1,7 @@
 // Exported for C: the new link, opening a booking, the wipe between bookings; the limits and the rows of settings.
+
+#![tactic(auto)]
+
 use board::Link;
 use host_link::answers::HostAnswer;
 use host_link::{HostLink, HostSettings};

@@ -10,7 +10,7 @@ use memory::Status;
 
 // The four status words of a descriptor.
 #[repr(C)]
-#[derive(Drop)]
+#[derive(Clone, Copy)]
 pub struct Statuses {
     pub empty: u16,
     pub good: u16,
@@ -20,7 +20,7 @@ pub struct Statuses {
 
 // The nine event bits, as words with that bit alone.
 #[repr(C)]
-#[derive(Drop)]
+#[derive(Clone, Copy)]
 pub struct Events {
     pub over: u16,
     pub busy: u16,
@@ -35,7 +35,7 @@ pub struct Events {
 
 // Sizes, status words and event bits.
 #[repr(C)]
-#[derive(Drop)]
+#[derive(Clone, Copy)]
 pub struct HostLimits {
     pub sizes: Sizes,
     pub statuses: Statuses,

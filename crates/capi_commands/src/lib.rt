@@ -1,4 +1,7 @@
 // Exported for C: commands, and clearing event bits.
+
+#![tactic(auto)]
+
 ghost use Rattle.std.specs.Prelude.{◌≡◌, []};
 ghost use Rattle.calls.specs.Call as calls;
 ghost use Rattle.host_calls.specs.Answers.{host_answer};

@@ -1,4 +1,7 @@
 // Exported for the test of the header alone: the fields of a host's link, each read by its name.
+
+#![tactic(auto)]
+
 use host_link::HostLink;
 
 // An octet as a word.

@@ -1,4 +1,7 @@
 // Exported for C: receive_octets, which takes line octets in by whole octets.
+
+#![tactic(auto)]
+
 ghost use Rattle.std.specs.Prelude.{◌≡◌, [], ◌∷◌};
 ghost use Rattle.calls.specs.Call.{receive};
 ghost use Rattle.host_calls.specs.Answers.{host_answer};

@@ -1,4 +1,7 @@
 // Exported for C: the calls that put units on the line.
+
+#![tactic(auto)]
+
 ghost use Rattle.std.specs.Prelude.{◌≡◌, [], ◌∷◌};
 ghost use Rattle.calls.specs.Call.{send, fill};
 ghost use Rattle.host_calls.specs.Answers.{host_answer};

@@ -1,4 +1,7 @@
 // Exported for C: receive, which takes line octets in bit by bit. An archive of its own keeps each engine as fast as it is alone.
+
+#![tactic(auto)]
+
 ghost use Rattle.std.specs.Prelude.{◌≡◌, [], ◌∷◌};
 ghost use Rattle.calls.specs.Call.{receive};
 ghost use Rattle.host_calls.specs.Answers.{host_answer};

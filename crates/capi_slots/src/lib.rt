@@ -1,4 +1,7 @@
 // Exported for C: reading a slot and handing it back.
+
+#![tactic(auto)]
+
 ghost use Rattle.std.specs.Prelude.{◌≡◌, [], ◌∷◌};
 ghost use Rattle.calls.specs.Call.{reads_number, hand_back};
 ghost use Rattle.host_calls.specs.Answers.{host_answer, offset_of, host_part};

@@ -1,4 +1,7 @@
 // Reads up to 4,096 octets from standard input and writes the check octets of each beginning of them, from one octet on, to standard output.
+
+#![tactic(auto)]
+
 use libc::{STDIN_FILENO, STDOUT_FILENO};
 
 fn write_checks(octets: &[u8]) {

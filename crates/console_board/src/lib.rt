@@ -1,4 +1,7 @@
 // The calls of a console's board, each made on just the part of memory that is lent.
+
+#![tactic(auto)]
+
 ghost use Rattle.std.specs.Prelude.{◌≡◌, ◌≤◌, ◌*◌, length};
 ghost use Rattle.console_board.specs.Lent.{wanted_of, lent_of, open_lent, hand_lent, receive_lent, send_lent, fill_lent};
 
@@ -10,14 +13,14 @@ use link_slots::hand_back;
 use output::{Sent, fill, send};
 
 // How much of an area is lent: a size that was fixed, or what a call asks for.
-#[derive(Drop)]
+#[derive(Clone, Copy)]
 pub struct Size {
     pub fixed: bool,
     pub n: u16,
 }
 
 // The sizes of the four areas.
-#[derive(Drop)]
+#[derive(Clone, Copy)]
 pub struct Lending {
     pub pool: Size,
     pub desc: Size,

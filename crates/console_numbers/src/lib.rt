@@ -1,9 +1,12 @@
 // Words as decimal numbers and as octets in lower-case hex.
+
+#![tactic(auto)]
+
 ghost use Rattle.std.specs.Prelude.{◌≡◌, true, ◌≤◌, length, take};
 ghost use Rattle.console_numbers.specs.Numbers.{with_digit, value_of, decimal_from, decimal_of, is_hex_digit, hex_worth, is_hex, is_mask, octets_of};
 
 // Whether a word is a number up to 65,535, and that number; 0 where it is none.
-#[derive(Drop)]
+#[derive(Clone, Copy)]
 pub struct Number {
     pub good: bool,
     pub value: u16,

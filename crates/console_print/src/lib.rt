@@ -1,4 +1,7 @@
 // What a console prints of a board.
+
+#![tactic(auto)]
+
 pub mod answers;
 pub mod fields;
 pub mod grammar;

@@ -7,7 +7,7 @@ use console_numbers::{is_mask, mask};
 use console_words::{is_word, word, word_count};
 
 // The switches that words name; good as long as each word names one that was not named before.
-#[derive(Drop)]
+#[derive(Clone, Copy)]
 pub struct Switches {
     pub good: bool,
     pub filter: bool,
@@ -16,7 +16,7 @@ pub struct Switches {
 }
 
 // A mask and switches; good if the words are these.
-#[derive(Drop)]
+#[derive(Clone, Copy)]
 pub struct Booking {
     pub good: bool,
     pub mask: [u8; 5],

@@ -1,9 +1,12 @@
 // What a line of a console script asks for: the grammar that `help` prints. Total on every line.
+
+#![tactic(auto)]
+
 pub mod bookings;
 pub mod grammar;
 mod places;
 
-#[derive(Drop)]
+#[derive(Clone, Copy)]
 pub enum Verb {
     Nothing,
     Unreadable,
@@ -30,7 +33,7 @@ pub enum Verb {
 }
 
 // What is asked for, with its numbers in the order of the grammar. The octets of receive and send stay in the line, as its word 1.
-#[derive(Drop)]
+#[derive(Clone, Copy)]
 pub struct Request {
     pub verb: Verb,
     pub numbers: [u16; 6],

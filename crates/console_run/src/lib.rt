@@ -1,4 +1,7 @@
 // The job of the program console: lines gathered from blocks of standard input, and what they print written in blocks.
+
+#![tactic(auto)]
+
 ghost use Rattle.std.specs.Prelude.{◌<◌, ◌≤◌, length};
 
 use board::Link;

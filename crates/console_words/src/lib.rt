@@ -1,4 +1,7 @@
 // A line of a console script as words that are separated by one space.
+
+#![tactic(auto)]
+
 ghost use Rattle.std.specs.Prelude.{◌≡◌, ◌≤◌, ◌+◌, length, drop};
 ghost use Rattle.console_words.specs.Words.{words, word_of, same_word, up_to_space, space_in};
 

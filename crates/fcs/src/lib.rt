@@ -1,4 +1,7 @@
 // The frame check sequence: CRC-CCITT over octets, and the two check octets that a unit ends in.
+
+#![tactic(auto)]
+
 ghost use Rattle.std.specs.Prelude.{◌≡◌};
 ghost use Rattle.fcs.specs.Check.{check_of, check_octets};
 ghost use Rattle.fcs.specs.Table.{check_table};

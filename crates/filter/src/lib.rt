@@ -1,11 +1,14 @@
 // The repeat filter: what becomes of a good unit, and what the filter remembers of it. State goes in by value and comes back by value.
+
+#![tactic(auto)]
+
 ghost use Rattle.std.specs.Prelude.{◌≡◌, ◌&&◌, cond, List, ℕ, ◌≤◌, eqb, length, take};
 ghost use Rattle.bits.specs.Format.{basic, fill_in_octets};
 ghost use Rattle.filter.specs.Unit.{kind_of, masked, same};
 ghost use Rattle.filter.specs.Memory.{empty_memory, repeats, forgets, settled};
 
 // Fill-in unit (FISU), link status unit (LSSU), message unit (MSU).
-#[derive(Drop)]
+#[derive(Clone, Copy)]
 pub enum Kind {
     FillIn,
     LinkStatus,
@@ -15,7 +18,7 @@ pub enum Kind {
 // The last good unit that went to a slot: its length, its first octets under the mask, and whether the unit before
 // it was like it. Length 0 is the empty memory.
 #[repr(C)]
-#[derive(Drop)]
+#[derive(Clone, Copy)]
 pub struct Memory {
     pub length: u16,
     pub octets: [u8; 5],
@@ -23,14 +26,14 @@ pub struct Memory {
 }
 
 // What becomes of a good unit.
-#[derive(Drop)]
+#[derive(Clone, Copy)]
 pub enum Fate {
     HandedOver,
     Dropped,
     Lost,
 }
 
-#[derive(Drop)]
+#[derive(Clone, Copy)]
 pub struct Settled {
     pub fate: Fate,
     pub memory: Memory,

@@ -1,12 +1,15 @@
 // Delimitation: from line bits to units, and what is to be said of a closed unit.
 // The receiver's small state goes by value; the gathered bits stand in an area of 279 octets that the caller lends.
+
+#![tactic(auto)]
+
 pub mod area;
 pub mod delimit;
 pub mod unit;
 
 // The run of ones so far, 0 to 7; whether the receiver hunts for a flag; and how many bits are gathered in the area.
 #[repr(C)]
-#[derive(Drop)]
+#[derive(Clone, Copy)]
 pub struct Line {
     pub run: u8,
     pub hunting: bool,
@@ -15,7 +18,7 @@ pub struct Line {
 
 // What one bit finds. A closed unit of n bits stands at the front of the area, with the seven bits of its flag behind it,
 // until the caller has used it and clears n + 7 bits.
-#[derive(Drop)]
+#[derive(Clone, Copy)]
 pub enum Found {
     Nothing,
     Closed(u16),
@@ -23,14 +26,14 @@ pub enum Found {
     Long,
 }
 
-#[derive(Drop)]
+#[derive(Clone, Copy)]
 pub struct Step {
     pub line: Line,
     pub found: Found,
 }
 
 // Where reading an octet stopped: at a finding, with `left` bits of it to come in `octet`, or at its end.
-#[derive(Drop)]
+#[derive(Clone, Copy)]
 pub struct Fed {
     pub step: Step,
     pub octet: u8,
@@ -38,7 +41,7 @@ pub struct Fed {
 }
 
 // What is to be said of a closed unit.
-#[derive(Drop)]
+#[derive(Clone, Copy)]
 pub enum Verdict {
     Short,
     NotWhole,

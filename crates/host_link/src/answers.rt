@@ -3,7 +3,7 @@ use crate::HostLink;
 
 // A call's number, 0 or that of its refusal, and the link.
 #[repr(C)]
-#[derive(Drop)]
+#[derive(Clone, Copy)]
 pub struct HostAnswer {
     pub link: HostLink,
     pub number: u8,
@@ -11,7 +11,7 @@ pub struct HostAnswer {
 
 // The same, and how many records were written or octets put out.
 #[repr(C)]
-#[derive(Drop)]
+#[derive(Clone, Copy)]
 pub struct HostCounted {
     pub count: usize,
     pub link: HostLink,
@@ -20,7 +20,7 @@ pub struct HostCounted {
 
 // Read's number, and where in the pool the unit begins and how many octets it has.
 #[repr(C)]
-#[derive(Drop)]
+#[derive(Clone, Copy)]
 pub struct HostPart {
     pub offset: usize,
     pub length: usize,

@@ -1,4 +1,7 @@
 // The link as a host in C or Rust holds it: every field a number or an array of octets, so that no octet of it can be one that the language does not see.
+
+#![tactic(auto)]
+
 use board::{
     Counting, Counts, Gathering, Link, Settings, Slots, Supervision, Transmitter, UnitState,
 };
@@ -14,7 +17,7 @@ ghost use Rattle.host_link.specs.Crossing.{are_switches, settings_of, given_sett
 
 // What a booking says; the three switches are 0 or 1.
 #[repr(C)]
-#[derive(Drop)]
+#[derive(Clone, Copy)]
 pub struct HostSettings {
     pub k: u16,
     pub m: u16,
@@ -30,7 +33,7 @@ pub struct HostSettings {
 
 // The monitor's count and event number.
 #[repr(C)]
-#[derive(Drop)]
+#[derive(Clone, Copy)]
 pub struct HostMonitor {
     pub count: u16,
     pub number: u16,
@@ -38,7 +41,7 @@ pub struct HostMonitor {
 
 // The filter's memory; alike is 0 or 1.
 #[repr(C)]
-#[derive(Drop)]
+#[derive(Clone, Copy)]
 pub struct HostMemory {
     pub length: u16,
     pub octets: [u8; 5],
@@ -47,7 +50,7 @@ pub struct HostMemory {
 
 // The receiver of line bits; hunting is 0 or 1.
 #[repr(C)]
-#[derive(Drop)]
+#[derive(Clone, Copy)]
 pub struct HostLine {
     pub bits: u16,
     pub run: u8,
@@ -56,7 +59,7 @@ pub struct HostLine {
 
 // The sender between calls; flagged and sent are 0 or 1.
 #[repr(C)]
-#[derive(Drop)]
+#[derive(Clone, Copy)]
 pub struct HostTransmitter {
     pub flagged: u8,
     pub count: u8,
@@ -68,7 +71,7 @@ pub struct HostTransmitter {
 // The link, words before octets, so that no octet of it is padding: 338 octets. The mode is 0 off, 1 failure, 2 alignment, 3 idle; opened and
 // counting are 0 or 1.
 #[repr(C)]
-#[derive(Drop)]
+#[derive(Clone, Copy)]
 pub struct HostLink {
     pub settings: HostSettings,
     pub counts: Counts,

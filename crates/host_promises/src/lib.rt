@@ -1,1 +1,3 @@
 // What is promised to a host in C or Rust. There is no code here.
+
+#![tactic(auto)]

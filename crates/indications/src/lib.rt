@@ -1,4 +1,7 @@
 // One indication of the line, a finding or an octet's end: to the unit state, the monitor and the records.
+
+#![tactic(auto)]
+
 ghost use Rattle.std.specs.Prelude.{◌≡◌, List, [], ◌∷◌, map, ℕ, ◌+◌, ◌*◌, ◌≤◌, length};
 ghost use Rattle.board.specs.InnerRanges.{SettingsInRange, MonitorInRange};
 ghost use Rattle.board.specs.Limits.{record_octets, monitor_limits};
@@ -14,7 +17,7 @@ use records::RecordKind;
 use units::Taken;
 
 // Unit state, monitor and event bits, and how many records are written.
-#[derive(Drop)]
+#[derive(Clone, Copy)]
 pub struct Progress {
     pub units: UnitState,
     pub supervision: Supervision,

@@ -1,4 +1,7 @@
 // Input: receive, the call that takes line octets in.
+
+#![tactic(auto)]
+
 ghost use Rattle.std.specs.Prelude.{◌≡◌};
 ghost use Rattle.board.specs.Malformed as Malformed;
 ghost use Rattle.board.specs.With.{with_reception};
@@ -10,7 +13,7 @@ use board::{Gathering, Link};
 use indications::Progress;
 
 // The number, the link, and how many records were written.
-#[derive(Drop)]
+#[derive(Clone, Copy)]
 pub struct Received {
     pub number: u8,
     pub link: Link,

@@ -1,4 +1,7 @@
 // Reads line octets from standard input and writes their records to standard output.
+
+#![tactic(auto)]
+
 fn main() {
     lineview_run::view_input();
 }

@@ -1,4 +1,7 @@
 // The booking that lineview views the line through, and what one line octet does to it.
+
+#![tactic(auto)]
+
 ghost use Rattle.std.specs.Prelude.{◌≡◌, not, eqb, ◌*◌, ◌≤◌, length};
 ghost use Rattle.memory.specs.declared.Status.TheVariants.{Empty};
 ghost use Rattle.memory.specs.Lent.{status_of, status_word};

@@ -1,4 +1,7 @@
 // The job of the program lineview: line octets from standard input, their records to standard output.
+
+#![tactic(auto)]
+
 ghost use Rattle.std.specs.Prelude.{◌≡◌, ◌*◌, ◌≤◌, length, take};
 ghost use Rattle.board.specs.Limits.{record_room};
 ghost use Rattle.lineview_board.specs.View.{all_written};

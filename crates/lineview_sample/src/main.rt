@@ -1,4 +1,7 @@
 // lineview on a longer line.
+
+#![tactic(auto)]
+
 fn main() {
     lineview_run::view_input();
 }

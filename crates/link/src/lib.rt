@@ -1,4 +1,7 @@
 // What the calls on one link share: the answer, the commands, the refusal's number, the sizes of the lent memory. specs/ says what each call answers.
+
+#![tactic(auto)]
+
 ghost use Rattle.std.specs.Prelude.{◌≡◌, cond};
 ghost use Rattle.bits.specs.Format.{basic};
 ghost use Rattle.link.specs.Refusals.{fits_memory};
@@ -6,14 +9,14 @@ ghost use Rattle.link.specs.Refusals.{fits_memory};
 use board::Link;
 
 // A call's number, 0 or that of its refusal, and the link.
-#[derive(Drop)]
+#[derive(Clone, Copy)]
 pub struct Answer {
     pub number: u8,
     pub link: Link,
 }
 
 // The commands, and any number that is none.
-#[derive(Drop)]
+#[derive(Clone, Copy)]
 pub enum CommandCode {
     MonitorOff,
     StartFailure,

@@ -1,4 +1,7 @@
 // Opening a booking, and the wipe between bookings.
+
+#![tactic(auto)]
+
 ghost use Rattle.std.specs.Prelude.{◌≡◌};
 ghost use Rattle.board.specs.Malformed as Malformed;
 ghost use Rattle.link.specs.Refusals.{open_number};

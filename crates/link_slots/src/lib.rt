@@ -1,4 +1,7 @@
 // Reading a slot and handing it back.
+
+#![tactic(auto)]
+
 ghost use Rattle.std.specs.Prelude.{◌≡◌};
 ghost use Rattle.board.specs.Malformed as Malformed;
 ghost use Rattle.link.specs.Refusals.{read_number};

@@ -1,4 +1,7 @@
 // The memory that the host lends: the pool, K slots of 280 octets each, and the descriptors, two words for each slot: status, then length.
+
+#![tactic(auto)]
+
 ghost use Rattle.std.specs.Prelude.{◌≡◌, ℕ, ◌+◌, ◌*◌, ◌≤◌, ◌<◌, eqb, length, take, drop, get_or};
 ghost use Rattle.bits.specs.Format.{basic};
 ghost use Rattle.memory.specs.Lent.{status_word, zeros, wiped, empty_descriptors, with_slot, with_descriptor, filled, empty_slot, next_slot};
@@ -9,7 +12,7 @@ pub const SLOT: usize = 280;
 pub const STATUS_EMPTY: u16 = 32768;
 
 // What a slot holds: nothing, a good unit, or one with an error.
-#[derive(Drop)]
+#[derive(Clone, Copy)]
 pub enum Status {
     Empty,
     Good,

@@ -1,10 +1,13 @@
 // The error monitors: SUERM in failure mode, AERM in alignment mode. State goes in by value and comes back by value.
+
+#![tactic(auto)]
+
 ghost use Rattle.std.specs.Prelude.{◌≡◌, ◌+◌, ◌-◌, ◌<◌};
 ghost use Rattle.bits.specs.Octets.{worth};
 ghost use Rattle.monitor.specs.Monitor.{started, stopped, failing, aligning, step};
 
 // Idle is where an alarm leaves a monitor; off is where it is before any start and after command 1.
-#[derive(Drop)]
+#[derive(Clone, Copy)]
 pub enum Mode {
     Off,
     Failure,
@@ -13,7 +16,7 @@ pub enum Mode {
 }
 
 // The count of errored events, lowered at decay points, and the event number, which is 0 again at each decay point.
-#[derive(Drop)]
+#[derive(Clone, Copy)]
 pub struct Monitor {
     pub mode: Mode,
     pub count: u16,
@@ -22,21 +25,21 @@ pub struct Monitor {
 
 // The settings T, D and A of document 01: threshold and decay of the failure monitor, threshold of the alignment monitor.
 #[repr(C)]
-#[derive(Drop)]
+#[derive(Clone, Copy)]
 pub struct Limits {
     pub t: u16,
     pub d: u16,
     pub a: u16,
 }
 
-#[derive(Drop)]
+#[derive(Clone, Copy)]
 pub enum Alarm {
     Nothing,
     Suer,
     Aerm,
 }
 
-#[derive(Drop)]
+#[derive(Clone, Copy)]
 pub struct Stepped {
     pub monitor: Monitor,
     pub alarm: Alarm,

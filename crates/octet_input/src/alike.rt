@@ -6,7 +6,7 @@ use board::Link;
 use input::Received;
 
 // What receive and receive_octets answer.
-#[derive(Drop)]
+#[derive(Clone, Copy)]
 pub struct Both {
     pub bits: Received,
     pub octets: Received,

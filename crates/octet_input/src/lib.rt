@@ -1,4 +1,7 @@
 // Input by whole octets: receive_octets, a second engine behind the answer of receive.
+
+#![tactic(auto)]
+
 ghost use Rattle.std.specs.Prelude.{◌≡◌};
 ghost use Rattle.input.specs.Receive.{receive_answer};
 

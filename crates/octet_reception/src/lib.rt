@@ -1,4 +1,7 @@
 // The receiver's path through one call by whole octets: those in which nothing is found are taken together, the others one by one.
+
+#![tactic(auto)]
+
 ghost use Rattle.std.specs.Prelude.{◌≡◌, true, List, ℕ, ◌+◌, ◌*◌, ◌≤◌, ◌<◌, length, replicate};
 ghost use Rattle.board.specs.InnerRanges.{SettingsInRange, MonitorInRange};
 ghost use Rattle.board.specs.Limits.{record_octets, record_room};

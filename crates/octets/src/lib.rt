@@ -1,4 +1,7 @@
 // Delimitation by whole octets: those in which no flag and no abort ends, by a table of 2,048 rows.
+
+#![tactic(auto)]
+
 ghost use Rattle.std.specs.Prelude.{◌≡◌, ◌+◌, ◌*◌, ◌≤◌, length, take};
 ghost use Rattle.bits.specs.Octets.{line_bits, packed};
 ghost use Rattle.framing.specs.InnerReading.{IsWellFormed};
@@ -10,7 +13,7 @@ use framing::Line;
 pub mod table;
 
 // How many octets were taken, and the receiver's numbers then.
-#[derive(Drop)]
+#[derive(Clone, Copy)]
 pub struct Scan {
     pub taken: usize,
     pub line: Line,

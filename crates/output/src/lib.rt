@@ -1,4 +1,7 @@
 // Output: send and fill, the calls that put units on the line.
+
+#![tactic(auto)]
+
 ghost use Rattle.std.specs.Prelude.{◌≡◌, true};
 ghost use Rattle.std.specs.Int.Bits.{bit_or};
 ghost use Rattle.board.specs.Malformed as Malformed;
@@ -12,7 +15,7 @@ use board::{Link, Supervision, Transmitter};
 use sending::Tx;
 
 // The number, the link, and how many octets were put out.
-#[derive(Drop)]
+#[derive(Clone, Copy)]
 pub struct Sent {
     pub number: u8,
     pub link: Link,

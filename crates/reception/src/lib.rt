@@ -1,4 +1,7 @@
 // The receiver's path through one call: line octets in; units to slots, events to the monitor, records out.
+
+#![tactic(auto)]
+
 ghost use Rattle.std.specs.Prelude.{◌≡◌, [], ◌∷◌, ◌+◌, ◌*◌, ◌≤◌, length};
 ghost use Rattle.board.specs.InnerRanges.{SettingsInRange};
 ghost use Rattle.board.specs.Limits.{record_octets, record_room, monitor_limits};
@@ -12,7 +15,7 @@ use framing::Line;
 use indications::Progress;
 
 // Unit state, monitor and records written, with the receiver's small state.
-#[derive(Drop)]
+#[derive(Clone, Copy)]
 pub struct Passed {
     pub line: Line,
     pub progress: Progress,

@@ -1,4 +1,7 @@
 // What happens on a link, what the monitor makes of it, and its record of sixteen octets.
+
+#![tactic(auto)]
+
 ghost use Rattle.std.specs.Prelude.{◌≡◌, [], ◌∷◌, ◌++◌, ◌+◌, ◌*◌, ◌≤◌, ◌<◌, length};
 ghost use Rattle.bits.specs.Octets.{worth};
 ghost use Rattle.board.specs.Limits.{record_octets};
@@ -11,7 +14,7 @@ use board::{Link, Supervision};
 use monitor::{Alarm, Limits};
 
 // What a record tells of.
-#[derive(Drop)]
+#[derive(Clone, Copy)]
 pub enum RecordKind {
     HandedOver,
     Dropped,
@@ -26,7 +29,7 @@ pub enum RecordKind {
 
 // One thing that happens: its record's kind, whether a unit was lost for want of a slot, the unit's length and first five octets, the
 // good count then, whether the monitors take it as an event and as an errored one, and the event bits that it sets by itself.
-#[derive(Drop)]
+#[derive(Clone, Copy)]
 pub struct Happening {
     pub kind: RecordKind,
     pub lost: bool,
@@ -39,7 +42,7 @@ pub struct Happening {
 }
 
 // What a happening leaves: monitor and event bits, and whether it raised SUER or AERM.
-#[derive(Drop)]
+#[derive(Clone, Copy)]
 pub struct Noted {
     pub supervision: Supervision,
     pub raised: bool,

@@ -1,4 +1,7 @@
 // Sending: a unit's octets are stuffed, closed by a flag, and packed into whole octets of a lent output area.
+
+#![tactic(auto)]
+
 ghost use Rattle.std.specs.Prelude.{◌≡◌, ◌^◌, ◌≤◌, ◌<◌};
 ghost use Rattle.bits.specs.Octets.{bits_of, line_bits};
 ghost use Rattle.sending.specs.Stuffing.{stuffed, ones_over, flag, unit_line};
@@ -9,7 +12,7 @@ mod table;
 
 // Where the next octet goes in the output area; how many bits wait and the octet that holds them, first one lowest; and the
 // ones sent in a row.
-#[derive(Drop)]
+#[derive(Clone, Copy)]
 pub struct Tx {
     pub at: usize,
     pub count: u8,

@@ -1,5 +1,7 @@
 // Text put behind what an area has already. Where the area is full the rest is left out; the callers' areas have room.
 
+#![tactic(auto)]
+
 // Decimal digits that a number can have.
 const DIGITS: usize = 20;
 

@@ -1,4 +1,7 @@
 // What happens to a closed unit, in order; long units and aborts; octet counting. The front end: it never looks at the monitor.
+
+#![tactic(auto)]
+
 ghost use Rattle.std.specs.Prelude.{◌≡◌, ℕ, ◌+◌, ◌-◌, ◌<◌, ◌≤◌, true, false, List, [], ◌∷◌, length, take, if◌then◌else◌, ◌==◌, nat_eq, slice_index};
 ghost use Rattle.bits.specs.Octets.{line_bits, packed};
 ghost use Rattle.fcs.specs.Table.{check_table};
@@ -13,7 +16,7 @@ use memory::Status;
 use records::{Happening, RecordKind};
 
 // The unit state after a finding, and what happened.
-#[derive(Drop)]
+#[derive(Clone, Copy)]
 pub struct Taken {
     pub units: UnitState,
     pub happening: Happening,

@@ -1,4 +1,7 @@
 // The tests for a malformed link and for settings out of range, which nearly every call makes first.
+
+#![tactic(auto)]
+
 ghost use Rattle.std.specs.Prelude.{ℕ, ◌≡◌, Bool, true, false, ◌&&◌, List};
 ghost use Rattle.bits.specs.Format.{basic};
 ghost use Rattle.filter.specs.declared.Memory.{Memory};
