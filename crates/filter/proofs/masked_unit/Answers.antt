@@ -7,4 +7,4 @@ use Rattle.filter.proofs.masked_unit.Goals as goal
 
 pub returns : goal.returns
 unfolding masked
-returns c = sym (ap₂ masked (of-five c.args.t2 (search rules)) (of-five c.args.t1 (search rules)))
+returns c = sym (ap₂ masked (of-five c.args.mask (search rules)) (of-five c.args.first (search rules)))

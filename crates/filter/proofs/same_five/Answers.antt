@@ -29,4 +29,4 @@ five-tests xs ys h k =
     (eqb (get_or xs 4 0) (get_or ys 4 0)) ∙ sym (ap₂ same (of-five xs h) (of-five ys k))
 
 pub returns : goal.returns
-returns c = five-tests c.args.t1 c.args.t2 (search rules) (search rules)
+returns c = five-tests c.args.a c.args.b (search rules) (search rules)

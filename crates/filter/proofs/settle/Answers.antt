@@ -7,9 +7,10 @@ use lib.ListN.{length, take}
 use Rattle.bits.specs.Format.{basic, fill_in_octets}
 use Rattle.filter.proofs.Settling.{Found, found, goes_dropped, goes_over, goes-lost}
 use Rattle.filter.proofs.settle.Goals as goal
+use Rattle.filter.proofs.settle.Goals.{After-is_dropped}
 
 -- what the calls have told of a unit u that has this length and these first octets
-told : (c : goal.After-is_dropped) (u : List ℕ)
+told : (c : After-is_dropped) (u : List ℕ)
     → let s = c.args in
     length u ≡ s.octets → take (fill_in_octets basic) u ≡ s.first
     → Found basic s.on s.mask s.memory u s.octets c.kind_of-kind.result c.masked_unit-five.result
@@ -24,12 +25,12 @@ told c u h t =
     c.is_dropped.ensures
 
 pub returns-then-is_dropped : goal.returns-then-is_dropped
-returns-then-is_dropped c u h t = goes_dropped basic _ _ _ _ (told c u h t) _ c.if-is_dropped.true
+returns-then-is_dropped c u h t = goes_dropped basic _ _ _ _ (told c.before u h t) _ c.if-is_dropped.true
 
 pub returns-then-free : goal.returns-then-free
 returns-then-free c u h t =
-    goes_over basic _ _ _ _ (told c u h t) c.if-is_dropped.false c.if-free.true c.remembered-kept.ensures
+    goes_over basic _ _ _ _ (told c.before.before.before u h t) c.if-is_dropped.false c.if-free.true c.remembered-kept.ensures
 
 pub returns : goal.returns
 returns c u h t =
-    goes-lost basic _ _ _ _ (told c u h t) c.if-is_dropped.false c.if-free.false c.empty-empty.ensures
+    goes-lost basic _ _ _ _ (told c.before.before.before u h t) c.if-is_dropped.false c.if-free.false c.empty-empty.ensures

@@ -5,10 +5,11 @@ use lib.ListN.{length, take}
 use lib.Seq.{length-take-le}
 use Rattle.memory.proofs.Places.{fill-rest}
 use Rattle.memory.proofs.fill_slot.Goals as goal
+use Rattle.memory.proofs.fill_slot.Goals.{After-copy_octets-arg-1}
 
 -- the slot's front has room for the unit
-front : (c : goal.After-copy_octets-arg-1) → let a = c.args in length (take (length a.unit.now) a.slot.now) ≡ length a.unit.now
-front c = let s = c in length-take-le _ s.args.slot.now (omega (arith, s.requires.0, s.requires.1))
+front : (c : After-copy_octets-arg-1) → let a = c.args in length (take (length a.unit.now) a.slot.now) ≡ length a.unit.now
+front c = let s = c.before.before.before in length-take-le _ s.args.slot.now (omega (arith, s.requires.0, s.requires.1))
 
 pub slice_bounds-copy_octets-end-2 : goal.slice_bounds-copy_octets-end-2
 slice_bounds-copy_octets-end-2 c = sym (front c)
