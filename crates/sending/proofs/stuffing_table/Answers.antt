@@ -3,12 +3,8 @@ use mathlib.Core.Path.{refl}
 use Rattle.bits.specs.Octets.{bits_of, octet_of}
 use Rattle.fcs.specs.Table.{table_from}
 use Rattle.sending.specs.Rows.{row_of, stuffing_table}
-use Rattle.sending.proofs.stuffing_table.Statement.{statement}
-use Rattle.sending.proofs.stuffing_table.Tie as tie
+use Rattle.sending.proofs.stuffing_table.Goals as goal
 
-returns : tie.Need-returns
+pub returns : goal.returns
 unfolding stuffing_table table_from row_of bits_of octet_of
 returns c = refl
-
-pub stuffing-table-spec : {M : Type 1} → statement M
-stuffing-table-spec = tie.close (tie.spec returns)
