@@ -3,12 +3,8 @@ use mathlib.Core.Path.{refl}
 use Rattle.bits.specs.Octets.{bits_of, octet_of}
 use Rattle.fcs.specs.Table.{table_from}
 use Rattle.octets.specs.Rows.{plain, row_of, row_table}
-use Rattle.octets.proofs.row_table.Statement.{statement}
-use Rattle.octets.proofs.row_table.Tie as tie
+use Rattle.octets.proofs.row_table.Goals as goal
 
-returns : tie.Need-returns
+pub returns : goal.returns
 unfolding row_table table_from row_of plain bits_of octet_of
 returns c = refl
-
-pub row-table-spec : {M : Type 1} → statement M
-row-table-spec = tie.close (tie.spec returns)
