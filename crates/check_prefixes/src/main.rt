@@ -2,20 +2,41 @@
 
 #![tactic(auto)]
 
-use libc::{STDIN_FILENO, STDOUT_FILENO};
+ghost use Rattle.std.specs.Prelude.{◌≤◌, length};
 
-fn write_checks(octets: &[u8]) {
+use std::io;
+use std::io::{Read, Write};
+
+// Reads until buf is full, the input ends or a read fails, and returns how many octets it put at the start of buf.
+fn read_full<R: Read>(input: &mut R, buf: &mut [u8]) -> usize
+    ensures { result ≤ length buf.new }
+{
+    let mut done: usize = 0;
+    while done < buf.len() {
+        let n = match input.read(&mut buf[done..]) {
+            Ok(n) => n,
+            Err(_) => 0,
+        };
+        if n == 0 {
+            break;
+        }
+        done += n;
+    }
+    done
+}
+
+fn write_checks<W: Write>(output: &mut W, octets: &[u8]) {
     let mut i: usize = 0;
     let mut is_written = true;
     while i < octets.len() && is_written {
         i += 1;
         let check = fcs::check_octets(&octets[..i]);
-        is_written = io::write_all(STDOUT_FILENO, &check);
+        is_written = output.write_all(&check).is_ok();
     }
 }
 
-fn main() {
-    let mut input = io::buffer();
-    let n = io::read_full(STDIN_FILENO, &mut input);
-    write_checks(&input[..n]);
+fn main(rt: HostRuntime) {
+    let mut input = [0u8; 4096];
+    let n = read_full(&mut rt.stdin(), &mut input);
+    write_checks(&mut rt.stdout(), &input[..n]);
 }

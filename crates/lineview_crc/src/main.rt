@@ -2,6 +2,6 @@
 
 #![tactic(auto)]
 
-fn main() {
-    lineview_run::view_input();
+fn main(rt: HostRuntime) {
+    lineview_run::view_input(&rt);
 }

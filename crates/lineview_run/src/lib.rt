@@ -8,7 +8,8 @@ ghost use Rattle.lineview_board.specs.View.{all_written};
 ghost use Rattle.lineview_run.specs.View.{all_passed};
 
 use board::Link;
-use libc::{STDIN_FILENO, STDOUT_FILENO};
+use std::io;
+use std::io::{Read, Write};
 
 // Octets of record area for the line octets of one read.
 const ROOM: usize = Link::RECORDS * Link::MOST_LINE;
@@ -56,17 +57,48 @@ fn pass_all(
     }
 }
 
-// Writes octets to standard output, and answers whether it could.
-fn write_out(octets: &[u8]) -> bool {
-    let is_written = io::write_all(STDOUT_FILENO, octets);
-    if !is_written {
-        os::fail(b"write");
-    }
-    is_written
+// Writes a line to standard error: what failed, a colon and the error's text, without the system's number behind it.
+fn fail<H: Eprint + Alloc>(host: &H, what: &str, error: io::Error) {
+    let said = match format!(in host.alloc(); "{error}") {
+        Ok(text) => match text.as_str().split_once(" (os error ") {
+            Some((words, _)) => eprintln!(host; "{what}: {words}"),
+            None => eprintln!(host; "{what}: {text}"),
+        },
+        Err(_) => eprintln!(host; "{what}: {error}"),
+    };
+    // there is nowhere else to say that standard error takes nothing
+    let _ = said;
 }
 
-// What one read of standard input gives, and its records; at the end of the input there is no more.
-fn read_some(
+// Writes octets to the output, and answers whether it could.
+fn write_out<H: Eprint + Alloc, W: Write>(host: &H, output: &mut W, octets: &[u8]) -> bool {
+    match output.write_all(octets) {
+        Ok(()) => true,
+        Err(error) => {
+            fail(host, "write", error);
+            false
+        }
+    }
+}
+
+// Reads once from the input, and answers how many octets it gave: none at its end, and none where it fails.
+fn read_in<H: Eprint + Alloc, R: Read>(host: &H, input: &mut R, buffer: &mut [u8]) -> usize
+    ensures { result ≤ length buffer.new }
+{
+    match input.read(buffer) {
+        Ok(n) => n,
+        Err(error) => {
+            fail(host, "read", error);
+            0
+        }
+    }
+}
+
+// What one read of the input gives, and its records; at the end of the input there is no more.
+fn read_some<H: Eprint + Alloc, R: Read, W: Write>(
+    host: &H,
+    input: &mut R,
+    output: &mut W,
     link: Link,
     pool: &mut [u8],
     descriptors: &mut [u16],
@@ -75,11 +107,7 @@ fn read_some(
 ) -> Session
     requires { record_room * length buffer.old ≤ length records.old }
 {
-    let got = libc::read(STDIN_FILENO, &mut *buffer);
-    if got < 0 {
-        os::fail(b"read");
-    }
-    let n = io::count(got, &*buffer);
+    let n = read_in(host, input, &mut *buffer);
     if n == 0 {
         return Session {
             more: false,
@@ -88,7 +116,7 @@ fn read_some(
     }
     let block = pass_all(link, &buffer[..n], pool, descriptors, &mut *records);
     let end = block.written;
-    let is_written = write_out(&records[..end]);
+    let is_written = write_out(host, output, &records[..end]);
     let l = block.link;
     Session {
         more: is_written,
@@ -97,7 +125,16 @@ fn read_some(
 }
 
 // A proved loop has to end, and nothing says that the input does: the reads are counted down from a number that no run uses up.
-fn run(link: Link, pool: &mut [u8], descriptors: &mut [u16], buffer: &mut [u8], records: &mut [u8])
+fn run<H: Eprint + Alloc, R: Read, W: Write>(
+    host: &H,
+    input: &mut R,
+    output: &mut W,
+    link: Link,
+    pool: &mut [u8],
+    descriptors: &mut [u16],
+    buffer: &mut [u8],
+    records: &mut [u8],
+)
     requires { record_room * length buffer.old ≤ length records.old }
 {
     let mut t = Session {
@@ -107,6 +144,9 @@ fn run(link: Link, pool: &mut [u8], descriptors: &mut [u16], buffer: &mut [u8], 
     let mut left = u64::MAX;
     while left > 0 && t.more {
         t = read_some(
+            host,
+            &mut *input,
+            &mut *output,
             t.link,
             &mut *pool,
             &mut *descriptors,
@@ -118,11 +158,20 @@ fn run(link: Link, pool: &mut [u8], descriptors: &mut [u16], buffer: &mut [u8], 
 }
 
 // A booking on its own memory, and all of standard input.
-pub fn view_input() {
+pub fn view_input<H: Input + Print + Eprint + Alloc>(host: &H) {
     let mut pool = [0u8; Link::SLOT * 16];
     let mut descriptors = [0u16; 32];
     let mut buffer = [0u8; Link::MOST_LINE];
     let mut records = [0u8; ROOM];
     let link = lineview_board::open_board(&mut pool, &mut descriptors);
-    run(link, &mut pool, &mut descriptors, &mut buffer, &mut records);
+    run(
+        host,
+        &mut host.reader(),
+        &mut io::writer(host),
+        link,
+        &mut pool,
+        &mut descriptors,
+        &mut buffer,
+        &mut records,
+    );
 }
