@@ -1,9 +1,9 @@
 # make demo     runs lineview on a sample line
 # make lib      proves and builds the library for C and Rust: target/lib
 # make install  copies library, header and pkg-config file to PREFIX (DESTDIR is put before it)
-# make test     runs the hosts in C and Rust, then proves and tests everything; its last line is the verdict
+# make test     proves and tests everything, then runs the hosts in C and Rust; its last line is the verdict
 # make bench    times the receiving engines and the check beside a bit-by-bit Rust program, each call, and lineview (docs/BENCHMARK.md)
-.PHONY: demo lib install test independent hosts bench
+.PHONY: demo lib install test tools gate independent hosts bench
 
 PREFIX = /usr/local
 VERSION = 0.1.0
@@ -19,33 +19,54 @@ WARNINGS = -O2 -Wall -Wextra -Werror -pedantic
 CARGO = cargo --offline --locked --quiet
 RUST = --manifest-path rust/Cargo.toml --target-dir target/rust
 
+# proves a program, builds it and copies it to target/bin; rt builds a program only to run it, and on no input lineview writes nothing
+PROGRAM = mkdir -p target/bin && (cd crates/$(1) && rt run < /dev/null) && cp crates/$(1)/out/$(1) target/bin/
+# proves a static library, builds it and copies it to target/staticlib
+STATICLIB = mkdir -p target/staticlib && (cd crates/$(1) && rt lib) && cp crates/$(1)/out/lib$(1).a target/staticlib/
+
 # says which tool is missing and what for, and fails
 NEED = command -v $(1) > /dev/null || { echo "make: $(1) is missing; it is needed for $(2)" >&2; exit 1; }
 
 demo:
-	rt check lineview
+	$(call PROGRAM,lineview)
 	target/bin/lineview < crates/lineview_sample/stdin | od -An -v -tx1 -w16
 
+# no link lies below the checkout, since rt ci refuses them: the three names of the shared library are one file here, and links where it is installed
 lib:
 	@$(call NEED,$(CC),the shared library)
-	for crate in $(EXPORTS); do rt staticlib $$crate || exit 1; done
+	$(foreach crate,$(EXPORTS),$(call STATICLIB,$(crate)) &&) true
 	rm -rf $(LIB)
 	mkdir -p $(LIB)/objects
 	cd $(LIB)/objects && for crate in $(EXPORTS); do ar x ../../staticlib/lib$$crate.a || exit 1; done
 	ar rcs $(LIB)/libpenguinjug.a $(LIB)/objects/*.o
 	$(CC) -shared -Wl,-soname,$(SONAME) -o $(LIB)/$(SHARED) $(LIB)/objects/*.o
-	ln -s $(SHARED) $(LIB)/$(SONAME)
-	ln -s $(SONAME) $(LIB)/libpenguinjug.so
+	ln $(LIB)/$(SHARED) $(LIB)/$(SONAME)
+	ln $(LIB)/$(SHARED) $(LIB)/libpenguinjug.so
 
 install:
 	@test -f $(LIB)/libpenguinjug.a || { echo "make: there is no library yet: run \`make lib\` first" >&2; exit 1; }
 	mkdir -p "$(DESTDIR)$(PREFIX)/include" "$(DESTDIR)$(PREFIX)/lib/pkgconfig"
 	cp include/penguinjug.h "$(DESTDIR)$(PREFIX)/include/"
-	cp -P $(LIB)/libpenguinjug.* "$(DESTDIR)$(PREFIX)/lib/"
+	cp $(LIB)/libpenguinjug.a $(LIB)/$(SHARED) "$(DESTDIR)$(PREFIX)/lib/"
+	ln -sf $(SHARED) "$(DESTDIR)$(PREFIX)/lib/$(SONAME)"
+	ln -sf $(SONAME) "$(DESTDIR)$(PREFIX)/lib/libpenguinjug.so"
 	sed -e 's|@PREFIX@|$(PREFIX)|' -e 's|@VERSION@|$(VERSION)|' include/penguinjug.pc.in > "$(DESTDIR)$(PREFIX)/lib/pkgconfig/penguinjug.pc"
 
-test: independent hosts
-	rt ci
+test: tools
+	$(MAKE) gate
+	$(MAKE) independent hosts
+	@tail -n 1 target/gate.log
+
+tools:
+	@$(call NEED,python3,the tests)
+	@$(call NEED,$(CC),the tests of the C host)
+	@$(call NEED,$(CXX),the test of the header in C++)
+	@$(call NEED,cargo,the tests of the Rust host)
+	@$(call NEED,pkg-config,the test of the installed library)
+
+# rt ci over the whole repository; what it says is kept in target/gate.log
+gate:
+	tests/gate.sh
 
 # the line and the records for the check of units, and README's check by hand, are those of a program that shares nothing with the project
 independent:
@@ -54,13 +75,9 @@ independent:
 	python3 tests/check_by_hand.py
 
 # the header and the Rust crate against the library, the C and the Rust host against each other, the programs that README shows
-hosts:
-	@$(call NEED,$(CC),the tests of the C host)
-	@$(call NEED,$(CXX),the test of the header in C++)
-	@$(call NEED,cargo,the tests of the Rust host)
-	@$(call NEED,pkg-config,the test of the installed library)
+hosts: tools
 	$(MAKE) lib
-	rt staticlib capi_fields
+	$(call STATICLIB,capi_fields)
 	mkdir -p target/hosts
 	$(CXX) -std=c++98 $(WARNINGS) -Iinclude -fsyntax-only -x c++ examples/loopback.c tests/c/names.c
 	$(CC) -std=c99 $(WARNINGS) -Iinclude tests/c/layout.c $(LIB)/libpenguinjug.a target/staticlib/libcapi_fields.a -o target/hosts/layout
@@ -76,14 +93,13 @@ hosts:
 	target/hosts/loopback > target/hosts/loopback.c.out
 	target/rust/debug/examples/loopback > target/hosts/loopback.rs.out
 	cmp target/hosts/loopback.c.out target/hosts/loopback.rs.out
-	$(MAKE) install PREFIX="$(CURDIR)/target/hosts/prefix"
-	CC="$(CC)" python3 tests/readme.py target/hosts
+	folder=$$(mktemp -d) && trap 'rm -rf "$$folder"' EXIT && $(MAKE) install PREFIX="$$folder/prefix" && CC="$(CC)" python3 tests/readme.py "$$folder"
 
 bench:
-	rt check lineview
-	rt staticlib bench_receive
-	rt staticlib bench_octets
-	rt staticlib bench_check
-	rt staticlib bench_calls
+	$(call PROGRAM,lineview)
+	$(call STATICLIB,bench_receive)
+	$(call STATICLIB,bench_octets)
+	$(call STATICLIB,bench_check)
+	$(call STATICLIB,bench_calls)
 	cargo build --release --offline --locked --manifest-path bench/Cargo.toml --target-dir target/bench
 	target/bench/release/bench

@@ -1,4 +1,4 @@
-//! Links the static libraries that `rt staticlib` writes.
+//! Links the static libraries that `make bench` puts there.
 fn main() {
     let folder = format!("{}/../target/staticlib", std::env::var("CARGO_MANIFEST_DIR").unwrap());
     println!("cargo:rerun-if-changed=build.rs");

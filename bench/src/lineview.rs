@@ -1,4 +1,4 @@
-//! The program lineview, as `rt check lineview` builds it: it reads a line from a file and writes the records to another.
+//! The program lineview, as `make bench` builds it: it reads a line from a file and writes the records to another.
 use crate::job::{Job, RECORD};
 use crate::lines::Line;
 use crate::{outcome, ENGINES, SWEEPS};
