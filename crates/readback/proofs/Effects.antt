@@ -49,6 +49,7 @@ unfolding unit_memory_after effect_of
 rest-same s [] o none = octet-end s o
 rest-same s (abort ∷ fs) o (aborted u) = let k = rest-same s fs (next_unit_memory s o (found abort)) u in record { pool = k.pool; descriptors = k.descriptors }
 rest-same s (long ∷ fs) o (overlong u) = let k = rest-same s fs (next_unit_memory s o (found long)) u in record { pool = k.pool; descriptors = k.descriptors }
+rest-same s (closed _ ∷ fs) o x4 = elim x4 [ ]
 
 -- ---- the good unit: of these octets, handed over
 abbrev pub over : Settings → UnitMemory → List ℕ → Effect

@@ -179,6 +179,7 @@ unclosed-both : (xs ys : List Finding) → Unclosed xs → Unclosed ys → Unclo
 unclosed-both [] ys none b = b
 unclosed-both (abort ∷ xs) ys (aborted a) b = aborted (unclosed-both xs ys a b)
 unclosed-both (long ∷ xs) ys (overlong a) b = overlong (unclosed-both xs ys a b)
+unclosed-both (closed _ ∷ xs) ys x5 b = elim x5 [ ]
 
 few-unclosed : (M : ℕ) (bs : List Bool) (s : Receiver) → length s.gathered + length bs ≤ 7 → Unclosed (findings M s bs)
 few-unclosed M [] s h = none

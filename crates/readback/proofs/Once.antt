@@ -59,6 +59,7 @@ none-closed fs [] x e = refl
 none-closed [] (u ∷ us) none e = absurd (omega (arith, ap length e))
 none-closed (abort ∷ fs) (u ∷ us) (aborted x) e = let z : ◌≡◌ {A = ℕ} 0 1 = cc in absurd (omega arith)
 none-closed (long ∷ fs) (u ∷ us) (overlong x) e = let z : ◌≡◌ {A = ℕ} 0 1 = cc in absurd (omega arith)
+none-closed (closed _ ∷ fs) (u ∷ us) x e = elim x [ ]
 
 -- ---- bits
 one_bit : (M : ℕ) (bs : List Bool) (us : List (List ℕ)) (st : Receiver × List Finding) → length bs ≤ 7 → Finds st
