@@ -28,3 +28,8 @@ returns c =
     let e = c in
     let s = e.args in
     read_done s.link s.pool.now s.descriptors.now s.slot e.number_of-n.result (e.number_of-n.ensures s.link e.is_malformed-malformed.ensures refl refl) (280 * s.slot) (length_of s.descriptors.now s.slot) e.if-n-ne0.false refl refl
+
+pub slice_bounds-result-end-2 : goal.slice_bounds-result-end-2
+slice_bounds-result-end-2 c =
+    let f = readable c.args.link c.args.pool.now c.args.descriptors.now c.args.slot (sym (c.number_of-n.ensures c.args.link c.is_malformed-malformed.ensures refl refl) ∙ c.if-n-ne0.false) in
+    omega (arith, f.octets, f.below, f.short)
