@@ -72,6 +72,9 @@ one_bit M bs (v ∷ us) (s, closed u ∷ []) h closes e go_on =
     omega (arith, none-closed (findings M flagged bs) us (flag-unclosed M bs h) rest)
 one_bit M bs (v ∷ us) (s, abort ∷ []) h aborts e go_on = let z : ◌≡◌ {A = ℕ} 0 1 = cc in absurd (omega arith)
 one_bit M bs (v ∷ us) (s, long ∷ []) h too_long e go_on = let z : ◌≡◌ {A = ℕ} 0 1 = cc in absurd (omega arith)
+one_bit M bs (v ∷ us) (s, closed u ∷ (_ ∷ _)) h x e go_on = elim x [ ]
+one_bit M bs (v ∷ us) (s, abort ∷ (_ ∷ _)) h x e go_on = elim x [ ]
+one_bit M bs (v ∷ us) (s, long ∷ (_ ∷ _)) h x e go_on = elim x [ ]
 
 pub at_most_one : (M : ℕ) (bs : List Bool) (s : Receiver) (us : List (List ℕ)) → length bs ≤ 8 → findings M s bs ≡ closings us → length us ≤ 1
 at_most_one M [] s us h e = omega (arith, ap length e, closings-length us)
