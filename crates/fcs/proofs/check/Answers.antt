@@ -1,5 +1,4 @@
 -- `fcs::check` meets its contract: the octets that are left, fed to the register, give the whole.
-use Prim.Native.Nat.{◌-◌}
 use native.Mathlib.Omega.{arith}
 use Rattle.fcs.proofs.Rest.{start, next, done}
 use Rattle.fcs.proofs.check.Goals as goal

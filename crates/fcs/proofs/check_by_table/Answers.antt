@@ -1,16 +1,11 @@
 -- `fcs::check_by_table` meets its contract: the octets that are left, fed to the register, give the whole, and the table's words are those of the octets' bits.
-use Prim.Native.Nat.{ℕ, ◌+◌, ◌-◌, ◌/◌, ◌≤◌, ◌<◌}
-use native.Mathlib.Nat.{le_of_lt, lt_of_lt_of_le, mod-lt}
+use Prim.Native.Nat.{◌+◌}
 use native.Mathlib.Omega.{arith}
-use mir.Syntax.{w64}
-use mir.Val.{Fits}
-use borrow.Author.Rules.{Fits-under, scaled_Fits}
-use lib.Dec.{lit<, lit≤}
-use lib.Bits.{bit_xor}
-use lib.ListN.{length, get_or}
+use lib.Dec.{lit≤}
+use lib.ListN.{get_or}
 use Rattle.fcs.proofs.Rest.{next, done}
 use Rattle.fcs.proofs.Octetwise.{octet-by-lent}
-use Rattle.fcs.proofs.Fours.{high_lt, start-within, next-four, FourLeft, four-left, in_table}
+use Rattle.fcs.proofs.Fours.{high_lt, start-within, next-four, in_table}
 use Rattle.fcs.proofs.check_by_table.Goals as goal
 
 pub loop-at-init : goal.loop-at-init
