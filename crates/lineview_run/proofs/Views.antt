@@ -1,6 +1,6 @@
 -- How one octet after the other makes up all of them, and the records of each those of all.
 use Prim.Native.Nat.{ℕ, ◌+◌, ◌-◌, ◌*◌, ◌≤◌, ◌<◌}
-use mathlib.Core.Path.{◌≡◌, refl, sym, ap, ap₂, ◌∙◌}
+use mathlib.Core.Path.{◌≡◌, refl, sym, ap, ap₂, ◌∙◌, subst}
 use mathlib.Core.List.{List, [], ◌∷◌, ◌++◌, append-nil, append_assoc}
 use lib.ListN.{length, take, get_or, drop, drop_of_length-le}
 use lib.Seq.{drop-cons, length-take-le, take-append-add, take-append-le}
@@ -12,7 +12,11 @@ use Rattle.input.specs.Receive.{ReceiveOutcome}
 use Rattle.link.specs.Held.{Held}
 use Rattle.lineview_board.specs.View.{octet_fed, passed, view_records, all_written}
 use Rattle.lineview_board.proofs.Areas.{fed-few, fed-passed, fed-written}
-use Rattle.lineview_run.specs.View.{all_passed}
+use Rattle.std.specs.Prelude.{Option}
+use Rattle.std.specs.Io.KnownBytes.{Consumes, Appends}
+use Rattle.std.proofs.KnownBytes.{Appends-nil, Consumes-trans, Appends-trans}
+use Rattle.bits.proofs.Machines.{run-append, outs-append}
+use Rattle.lineview_run.specs.View.{all_passed, Views}
 
 octet-step : (h : Held) (octet : ℕ) (rest : List ℕ) → all_passed h (octet ∷ rest) ≡ all_passed (passed h octet) rest
 unfolding all_passed
@@ -92,3 +96,26 @@ all-fed octets h₀ h area at i none f =
       sym (ap (all_passed h) end ∙ no-octet h) ∙ f.held,
       sym (ap (λ (xs : List ℕ). take at area ++ xs) (ap (all_written h) end ∙ no_record h) ∙ append-nil (take at area)) ∙ f.records,
     )
+
+-- ---- one read after the other
+
+-- nothing read, nothing written
+pub views-none : (h : Held) (a b o : Option (List ℕ)) → Consumes a b [] → Views h h a b o o
+views-none h a b o none = ([], none, subst (Appends o o) (sym (no_record h)) (Appends-nil o), sym (no-octet h))
+
+passed-more : (h : Held) (xs ys : List ℕ) → all_passed h (xs ++ ys) ≡ all_passed (all_passed h xs) ys
+unfolding all_passed
+passed-more h xs ys = run-append passed xs ys h
+
+written-more : (h : Held) (xs ys : List ℕ) → all_written h (xs ++ ys) ≡ all_written h xs ++ all_written (all_passed h xs) ys
+unfolding all_passed all_written
+written-more h xs ys = outs-append passed view_records xs ys h
+
+-- what a read and its records do after those before them
+pub views-more : (h₀ h h' : Held) (a b c o p q : Option (List ℕ)) → Views h₀ h a b o p → Views h h' b c p q → Views h₀ h' a c o q
+views-more h₀ h h' a b c o p q (xs, first, wrote, held) (ys, second, more, last) = (
+  xs ++ ys,
+  Consumes-trans a b c xs ys first second,
+  subst (Appends o q) (ap (λ (x : Held). all_written h₀ xs ++ all_written x ys) held ∙ sym (written-more h₀ xs ys)) (Appends-trans o p q _ _ wrote more),
+  last ∙ ap (λ (x : Held). all_passed x ys) held ∙ sym (passed-more h₀ xs ys),
+)

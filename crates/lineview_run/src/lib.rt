@@ -2,10 +2,12 @@
 
 #![tactic(auto)]
 
-ghost use Rattle.std.specs.Prelude.{◌≡◌, ◌*◌, ◌≤◌, length, take};
+ghost use Rattle.std.specs.Prelude.{◌≡◌, ◌≢◌, ◌*◌, ◌<◌, ◌≤◌, [], length, take, replicate, true, IfSome, IsNone};
+ghost use Rattle.std.specs.Io.KnownBytes.{Consumes, Appends, IsAtEnd};
 ghost use Rattle.board.specs.Limits.{record_room};
-ghost use Rattle.lineview_board.specs.View.{all_written};
-ghost use Rattle.lineview_run.specs.View.{all_passed};
+ghost use Rattle.lineview_board.specs.View.{board_opened, all_written};
+ghost use Rattle.lineview_run.specs.View.{all_passed, Views, ViewsAll};
+ghost use Rattle.lineview_run.specs.declared.Progress.TheVariants.{AtEnd, Unwritten};
 
 use board::Link;
 use std::io;
@@ -14,10 +16,19 @@ use std::io::{Read, Write};
 // Octets of record area for the line octets of one read.
 const ROOM: usize = Link::RECORDS * Link::MOST_LINE;
 
-// Whether to go on, and the link.
+// How far a view has come: there may be more; all of the input is read; a read failed; a write failed.
+#[derive(Clone, Copy)]
+pub enum Progress {
+    More,
+    AtEnd,
+    Unread,
+    Unwritten,
+}
+
+// How far, and the link.
 #[derive(Drop)]
 struct Session {
-    more: bool,
+    progress: Progress,
     link: Link,
 }
 
@@ -71,7 +82,9 @@ fn fail<H: Eprint + Alloc>(host: &H, what: &str, error: io::Error) {
 }
 
 // Writes octets to the output, and answers whether it could.
-fn write_out<H: Eprint + Alloc, W: Write>(host: &H, output: &mut W, octets: &[u8]) -> bool {
+fn write_out<H: Eprint + Alloc, W: Write>(host: &H, output: &mut W, octets: &[u8]) -> bool
+    ensures { result ≡ true → Appends (W.contents output.old) (W.contents output.new) octets.now }
+{
     match output.write_all(octets) {
         Ok(()) => true,
         Err(error) => {
@@ -81,15 +94,18 @@ fn write_out<H: Eprint + Alloc, W: Write>(host: &H, output: &mut W, octets: &[u8
     }
 }
 
-// Reads once from the input, and answers how many octets it gave: none at its end, and none where it fails.
-fn read_in<H: Eprint + Alloc, R: Read>(host: &H, input: &mut R, buffer: &mut [u8]) -> usize
-    ensures { result ≤ length buffer.new }
+// Reads once from the input, and answers how many octets it gave, none only at its end; None where the read fails.
+fn read_in<H: Eprint + Alloc, R: Read>(host: &H, input: &mut R, buffer: &mut [u8]) -> Option<usize>
+    ensures bounded { IfSome result (λ n. n ≤ length buffer.new) }
+    ensures octets { IfSome result (λ n. Consumes (R.remaining input.old) (R.remaining input.new) (take n buffer.new)) }
+    ensures end { IfSome result (λ n. n ≡ 0 → 0 < length buffer.new → IsAtEnd (R.remaining input.new)) }
+    ensures failed { IsNone result → Consumes (R.remaining input.old) (R.remaining input.new) [] }
 {
     match input.read(buffer) {
-        Ok(n) => n,
+        Ok(n) => Some(n),
         Err(error) => {
             fail(host, "read", error);
-            0
+            None
         }
     }
 }
@@ -106,11 +122,21 @@ fn read_some<H: Eprint + Alloc, R: Read, W: Write>(
     records: &mut [u8],
 ) -> Session
     requires { record_room * length buffer.old ≤ length records.old }
+    ensures viewed { result.progress ≢ Unwritten → Views (record { link = link; pool = pool.old; descriptors = descriptors.old }) (record { link = result.link; pool = pool.new; descriptors = descriptors.new }) (R.remaining input.old) (R.remaining input.new) (W.contents output.old) (W.contents output.new) }
+    ensures end { result.progress ≡ AtEnd → 0 < length buffer.new → IsAtEnd (R.remaining input.new) }
 {
-    let n = read_in(host, input, &mut *buffer);
+    let n = match read_in(host, input, &mut *buffer) {
+        Some(n) => n,
+        None => {
+            return Session {
+                progress: Progress::Unread,
+                link: link,
+            };
+        }
+    };
     if n == 0 {
         return Session {
-            more: false,
+            progress: Progress::AtEnd,
             link: link,
         };
     }
@@ -119,7 +145,11 @@ fn read_some<H: Eprint + Alloc, R: Read, W: Write>(
     let is_written = write_out(host, output, &records[..end]);
     let l = block.link;
     Session {
-        more: is_written,
+        progress: if is_written {
+            Progress::More
+        } else {
+            Progress::Unwritten
+        },
         link: l,
     }
 }
@@ -134,15 +164,17 @@ fn run<H: Eprint + Alloc, R: Read, W: Write>(
     descriptors: &mut [u16],
     buffer: &mut [u8],
     records: &mut [u8],
-)
+) -> Progress
     requires { record_room * length buffer.old ≤ length records.old }
+    ensures viewed { result ≢ Unwritten → ViewsAll (record { link = link; pool = pool.old; descriptors = descriptors.old }) (R.remaining input.old) (R.remaining input.new) (W.contents output.old) (W.contents output.new) }
+    ensures end { result ≡ AtEnd → 0 < length buffer.new → IsAtEnd (R.remaining input.new) }
 {
     let mut t = Session {
-        more: true,
+        progress: Progress::More,
         link: link,
     };
     let mut left = u64::MAX;
-    while left > 0 && t.more {
+    while left > 0 && matches!(t.progress, Progress::More) {
         t = read_some(
             host,
             &mut *input,
@@ -155,10 +187,19 @@ fn run<H: Eprint + Alloc, R: Read, W: Write>(
         );
         left -= 1;
     }
+    t.progress
 }
 
-// A booking on its own memory, and all of standard input.
-pub fn view_input<H: Input + Print + Eprint + Alloc>(host: &H) {
+// A booking on its own memory, and all of the input: the records of its octets go behind what the output holds. What fails is said on standard error.
+pub fn view<H: Eprint + Alloc, R: Read, W: Write>(
+    host: &H,
+    input: &mut R,
+    output: &mut W,
+) -> Progress
+    ensures viewed { result ≢ Unwritten → ViewsAll (board_opened (replicate 4480 0) (replicate 32 0)) (R.remaining input.old) (R.remaining input.new) (W.contents output.old) (W.contents output.new) }
+    ensures whole { result ≡ AtEnd → IfSome (R.remaining input.old) (λ octets. Appends (W.contents output.old) (W.contents output.new) (all_written (board_opened (replicate 4480 0) (replicate 32 0)) octets)) }
+    ensures end { result ≡ AtEnd → IsAtEnd (R.remaining input.new) }
+{
     let mut pool = [0u8; Link::SLOT * 16];
     let mut descriptors = [0u16; 32];
     let mut buffer = [0u8; Link::MOST_LINE];
@@ -166,12 +207,17 @@ pub fn view_input<H: Input + Print + Eprint + Alloc>(host: &H) {
     let link = lineview_board::open_board(&mut pool, &mut descriptors);
     run(
         host,
-        &mut host.reader(),
-        &mut io::writer(host),
+        input,
+        output,
         link,
         &mut pool,
         &mut descriptors,
         &mut buffer,
         &mut records,
-    );
+    )
+}
+
+// All of standard input, to standard output.
+pub fn view_input<H: Input + Print + Eprint + Alloc>(host: &H) {
+    let _ = view(host, &mut host.reader(), &mut io::writer(host));
 }
