@@ -126,6 +126,7 @@ module _ (s : Settings) (itu : s.itu ≡ false) (orn : s.orn ≡ false) where
       ap (λ (hs : List Happening). map kind_of (hs ++ happenings s (octet_effect s o).unit_memory ms)) quiet
       ∙ kinds-over ms (octet_effect s o).unit_memory fs ks k off e
   kinds-over (found g ∷ ms) o [] ks k off e = absurd (omega (arith, ap length e))
+  kinds-over (found g ∷ ms) o (f ∷ fs) [] k off e = elim k [ ]
   kinds-over (found g ∷ ms) o (f ∷ fs) (kind ∷ ks) (one_more b k) off e =
       let g-is : f ≡ g = cc in
       let rest : found_in ms ≡ fs = cc in
