@@ -1,4 +1,4 @@
--- `lineview_run::read_some` is safe: what was read and the records written lie in their areas.
+-- `lineview_run::read_some` meets its contract: what was read and the records written lie in their areas, and a read that gives nothing leaves all as it was.
 use Prim.Native.Nat.{ℕ}
 use mathlib.Core.Path.{sym, subst}
 use borrow.Author.Rules.{rules}

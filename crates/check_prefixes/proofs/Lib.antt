@@ -1,0 +1,3 @@
+-- Lemmas of the program's proofs.
+pub mod Parts
+pub mod Prefixes

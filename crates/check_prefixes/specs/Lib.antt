@@ -1,0 +1,2 @@
+-- What check_prefixes writes.
+pub mod Checks
