@@ -53,8 +53,9 @@ install:
 	sed -e 's|@PREFIX@|$(PREFIX)|' -e 's|@VERSION@|$(VERSION)|' include/penguinjug.pc.in > "$(DESTDIR)$(PREFIX)/lib/pkgconfig/penguinjug.pc"
 
 test: tools
+	$(MAKE) independent
 	$(MAKE) gate
-	$(MAKE) independent hosts
+	$(MAKE) hosts
 	@tail -n 1 target/gate.log
 
 tools:
