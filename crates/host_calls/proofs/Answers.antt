@@ -15,7 +15,6 @@ use Rattle.calls.specs.Call.{Call, Answer, answer, opens, receive, command, clea
 use Rattle.host_link.specs.declared.HostSettings.{HostSettings}
 use Rattle.host_link.specs.declared.HostLink.{HostLink}
 use Rattle.host_link.specs.Crossing.{given_settings, from_host, to_host, given_back}
-use Rattle.host_link.specs.declared.answers.HostPart.{HostPart}
 use Rattle.host_calls.specs.Answers.{Answered, host_answer, offset_of, host_part}
 
 -- an answer with a host's link in the place of its own

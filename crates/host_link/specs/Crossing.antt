@@ -1,5 +1,5 @@
 -- How a link crosses to a host in C or Rust and back: switches and the monitor's mode as numbers, all else as it is.
-use Rattle.std.specs.Prelude.{ℕ, Bool, true, false, ◌&&◌, cond, eqb, leb}
+use Rattle.std.specs.Prelude.{ℕ, Bool, true, ◌&&◌, cond, eqb, leb}
 use Rattle.monitor.specs.declared.Mode.{Mode}
 use Rattle.monitor.specs.declared.Mode.TheVariants.{Off, Failure, Alignment, Idle}
 use Rattle.board.specs.declared.Settings.{Settings}

@@ -11,16 +11,15 @@ use lib.ListN.{length, get_or}
 use borrow.Author.Tests.{leb-true, leb-false, eqb-true, eqb-false, ne_eqb}
 use Rattle.monitor.specs.ErrorMonitors.{ErrorMonitor, suerm, aerm, mode_of, alarm_of, threshold_of, rule_of}
 use Rattle.bits.specs.Octets.{worth}
-use Rattle.monitor.specs.declared.Mode.{Mode}
-use Rattle.monitor.specs.declared.Mode.TheVariants.{Failure, Alignment, Idle}
+use Rattle.monitor.specs.declared.Mode.TheVariants.{Idle}
 use Rattle.monitor.specs.declared.Alarm.{Alarm}
-use Rattle.monitor.specs.declared.Alarm.TheVariants.{Nothing, Suer, Aerm}
+use Rattle.monitor.specs.declared.Alarm.TheVariants.{Nothing}
 use Rattle.monitor.specs.declared.Monitor.{Monitor}
 use Rattle.monitor.specs.declared.Limits.{Limits}
 use Rattle.monitor.specs.declared.Stepped.{Stepped}
 use Rattle.monitor.specs.Monitor.{started, failing, aligning, step}
 use Rattle.monitor.specs.History.{monitor_after, alarms}
-use Rattle.monitor.specs.Stretch.{Rule, decay_point, failures, alignments, First}
+use Rattle.monitor.specs.Stretch.{decay_point, failures, alignments, First}
 use Rattle.monitor.specs.Promises.{alarm_at, SuerExactly, AermExactly, FailureNeverAerm, AlignmentNeverSuer, OffOrIdleStays}
 use Rattle.monitor.proofs.Steps.{step-failing, step-aligning, step-off-or-idle}
 use Rattle.monitor.proofs.Decay.{wraps, rises}

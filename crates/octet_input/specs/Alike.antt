@@ -1,5 +1,5 @@
 -- R-2: "Both engines give the same link, memory and records on every input."
-use Rattle.std.specs.Prelude.{◌≡◌, ℕ, List}
+use Rattle.std.specs.Prelude.{ℕ, List}
 use Rattle.input.specs.declared.Received.{Received}
 use Rattle.input.specs.Receive.{ReceiveOutcome}
 

@@ -1,6 +1,6 @@
 -- `link_booking::open` meets its contract: refused, or opened.
 use Rattle.link.proofs.Answers.{openable, open-refused, open_done}
-use mathlib.Core.Path.{◌≡◌, refl, sym, ◌∙◌}
+use mathlib.Core.Path.{refl, sym, ◌∙◌}
 use Rattle.link_booking.proofs.open.Goals as goal
 
 pub mark_empty-requires : goal.mark_empty-requires

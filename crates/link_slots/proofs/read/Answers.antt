@@ -1,10 +1,9 @@
 -- `link_slots::read` meets its contract: refused with an empty part, or the unit.
-use Rattle.link.specs.Refusals.{read_number}
-use Rattle.link.proofs.Answers.{Readable, readable, read-refused, read_done}
+use Rattle.link.proofs.Answers.{readable, read-refused, read_done}
 use Rattle.memory.specs.Lent.{length_of}
 use native.Mathlib.Omega.{arith}
 use Prim.Native.Nat.{◌*◌}
-use mathlib.Core.Path.{◌≡◌, refl, sym, ◌∙◌}
+use mathlib.Core.Path.{refl, sym, ◌∙◌}
 use Rattle.link_slots.proofs.read.Goals as goal
 
 pub returns-then-n-ne0 : goal.returns-then-n-ne0

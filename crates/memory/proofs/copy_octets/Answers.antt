@@ -1,5 +1,4 @@
 -- `memory::copy_octets` meets its contract: the octets are written one after the other.
-use Prim.Native.Nat.{◌-◌}
 use mathlib.Core.Path.{refl, sym}
 use native.Mathlib.Omega.{arith}
 use Rattle.memory.proofs.Loops.{write-start, write-more, write-end}

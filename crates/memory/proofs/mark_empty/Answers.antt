@@ -1,5 +1,4 @@
 -- `memory::mark_empty` meets its contract: the words of empty slots are written one after the other.
-use Prim.Native.Nat.{◌-◌}
 use mathlib.Core.Path.{sym, ◌∙◌}
 use native.Mathlib.Omega.{arith}
 use Rattle.memory.proofs.Loops.{write-start, write-more, write-end}

@@ -1,5 +1,4 @@
 -- `memory::no_word` meets its contract: the or so far and what is left decide.
-use Prim.Native.Nat.{◌-◌}
 use mathlib.Core.Path.{refl, ◌∙◌}
 use Rattle.memory.proofs.Loops.{or-next, or-ends}
 use Rattle.memory.proofs.no_word.Goals as goal

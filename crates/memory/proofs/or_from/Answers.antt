@@ -1,5 +1,4 @@
 -- `memory::or_from` meets its contract: the or so far and what is left decide.
-use Prim.Native.Nat.{◌-◌}
 use mathlib.Core.Path.{refl, ◌∙◌}
 use Rattle.memory.proofs.Loops.{or-next, or-ends}
 use Rattle.memory.proofs.or_from.Goals as goal

@@ -1,5 +1,4 @@
 -- `memory::wipe_octets` meets its contract: zeros are written one after the other.
-use Prim.Native.Nat.{◌-◌}
 use native.Mathlib.Omega.{arith}
 use Rattle.memory.proofs.Loops.{write-start, write-more, write-end}
 use Rattle.memory.proofs.Places.{wiped-length, wiped-at}

@@ -32,7 +32,7 @@ take_line-passed-requires c =
     let l = a.link in
     let typed = array-of-octets 279 l.line.area _ s.well_formed.0.1.1.1.1.0.1.1.1.0 in
     let w = may-take l a.octets.now a.pool.now a.descriptors.now a.records.now n.result (n.ensures l m.ensures refl refl) d.progress_of-q.result d.progress_of-q.ensures i.if-n-eq0.true typed in
-     record { settings_in_range = w.0; well_formed = w.1; rows_value = (c.row_table-rows.ensures, c.check_table-table.ensures) }
+    record { settings_in_range = w.0; well_formed = w.1; rows_value = (c.row_table-rows.ensures, c.check_table-table.ensures) }
 
 pub link_received-l-requires : goal.link_received-l-requires
 link_received-l-requires c = search rules
@@ -46,10 +46,13 @@ returns c =
     let a = d.args in
     let l = a.link in
     let e = n.ensures l m.ensures refl refl in
-    (elim j.branch [ then-n-eq0 w ↦ let t = w.take_line-passed in
-    receive-done l a.octets.now a.pool.now a.descriptors.now a.records.now n.result e d.progress_of-q.result d.progress_of-q.ensures
-    c.link_received-l.result j.g j.q j.pool j.descriptors j.records c.link_received-l.ensures
-    w.if-n-eq0.true t.result t.new.area t.new.pool t.new.descriptors t.new.out
-    t.ensures w.pool-is w.descriptors-is w.records-is w.g-is w.q-is | else-n-eq0 w ↦ receive-refused l a.octets.now a.pool.now a.descriptors.now a.records.now n.result e d.progress_of-q.result d.progress_of-q.ensures
-    c.link_received-l.result j.g j.q j.pool j.descriptors j.records c.link_received-l.ensures
-    w.if-n-eq0.false w.pool-is w.descriptors-is w.records-is w.g-is w.q-is ])
+    (elim j.branch [
+      | then-n-eq0 w ↦ let t = w.take_line-passed in
+          receive-done l a.octets.now a.pool.now a.descriptors.now a.records.now n.result e d.progress_of-q.result d.progress_of-q.ensures
+          c.link_received-l.result j.g j.q j.pool j.descriptors j.records c.link_received-l.ensures
+          w.if-n-eq0.true t.result t.new.area t.new.pool t.new.descriptors t.new.out
+          t.ensures w.pool-is w.descriptors-is w.records-is w.g-is w.q-is
+      | else-n-eq0 w ↦ receive-refused l a.octets.now a.pool.now a.descriptors.now a.records.now n.result e d.progress_of-q.result d.progress_of-q.ensures
+          c.link_received-l.result j.g j.q j.pool j.descriptors j.records c.link_received-l.ensures
+          w.if-n-eq0.false w.pool-is w.descriptors-is w.records-is w.g-is w.q-is
+    ])

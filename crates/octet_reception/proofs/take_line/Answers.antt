@@ -1,5 +1,5 @@
 -- `octet_reception::take_line` meets its contract: the octets so far are taken.
-use Prim.Native.Nat.{◌+◌, ◌-◌, ◌<◌}
+use Prim.Native.Nat.{◌+◌, ◌<◌}
 use mathlib.Core.Path.{refl}
 use native.Mathlib.Omega.{arith}
 use lib.ListN.{length}
@@ -25,7 +25,7 @@ plain_octets-scan-requires c =
     let l = top.loop-at in
     let start = top in
     let p = start.requires in
-     record { m_bound = (p.settings_in_range.0.m.1, p.rows_value.0); well_formed = l.invariant.1.held }
+    record { m_bound = (p.settings_in_range.0.m.1, p.rows_value.0); well_formed = l.invariant.1.held }
 
 pub end_octets-q-requires : goal.end_octets-q-requires
 end_octets-q-requires c =
@@ -39,7 +39,7 @@ end_octets-q-requires c =
     let p = start.requires in
     let few = within start.args.octets.now l.at stop.result scan.result.taken stop.ensures.0 stop.ensures.1 scan.ensures.few in
     let k = room-left _ _ _ _ _ l.at after_stop.loop-at-test.true _ _ _ p.well_formed.1 l.invariant.1 in
-     record { settings_in_range = (p.settings_in_range.0, l.invariant.1.ready.monitor, omega (arith, k)); le_left = (l.invariant.1.ready.fits.counter, λ on. omega (arith, few, stop.ensures.2 on)) }
+    record { settings_in_range = (p.settings_in_range.0, l.invariant.1.ready.monitor, omega (arith, k)); le_left = (l.invariant.1.ready.fits.counter, λ on. omega (arith, few, stop.ensures.2 on)) }
 
 pub overflow_add-at : goal.overflow_add-at
 overflow_add-at c =
@@ -76,7 +76,7 @@ take_octet-passed-requires c =
     let p = start.requires in
     let t = taken-together _ p.settings_in_range.0 _ _ _ _ _ _ stop.ensures.0 stop.ensures.1 _ _ _ l.pool l.descriptors _ l.invariant.1 _ _ scan.ensures _ _ (ends.ensures l.pool l.descriptors) in
     let k = room-left _ _ _ _ _ (l.at + scan.result.taken) (omega (arith, stop.ensures.1, branch.if-at-stop.true)) _ _ _ p.well_formed.1 t in
-     record { able = next-able _ ends.result l.pool l.descriptors _ p.settings_in_range.0 t.ready k; well_formed = (t.held, k); table_value = p.rows_value.1 }
+    record { able = next-able _ ends.result l.pool l.descriptors _ p.settings_in_range.0 t.ready k; well_formed = (t.held, k); table_value = p.rows_value.1 }
 
 pub overflow_add-at-then-at-stop : goal.overflow_add-at-then-at-stop
 overflow_add-at-then-at-stop c =

@@ -1,5 +1,4 @@
 -- `octets::gather_octets` meets its contract: the octets so far are plain, and their kept bits are joined to those that stood in the area.
-use Prim.Native.Nat.{◌-◌}
 use native.Mathlib.Nat.{lt_of_lt_of_le, mod-lt}
 use borrow.Author.Rules.{Fits-under}
 use lib.Dec.{lit<, lit≤}

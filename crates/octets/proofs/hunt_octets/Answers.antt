@@ -1,5 +1,4 @@
 -- `octets::hunt_octets` meets its contract: the octets so far are plain, and the run is told by the last row.
-use Prim.Native.Nat.{◌-◌}
 use native.Mathlib.Nat.{lt_of_lt_of_le}
 use native.Mathlib.Omega.{arith}
 use borrow.Author.Rules.{Fits-under}

@@ -25,7 +25,7 @@ gather_octets-requires c =
     let a = s.args in
     let e = c.if-room-octets.end in
     let u : e ≤ (a.m * 8 + 7 - a.line.bits) / 8 = (elim c.if-room-octets.branch [ then-room-octets w ↦ omega arith | else-room-octets w ↦ omega arith ]) in
-     record { run_bound = (s.requires.well_formed.run≤7, omega (arith, length-take e a.octets.now), s.requires.m_bound.1); area_value = s.requires.well_formed.zeroed }
+    record { run_bound = (s.requires.well_formed.run≤7, omega (arith, length-take e a.octets.now), s.requires.m_bound.1); area_value = s.requires.well_formed.zeroed }
 
 pub returns : goal.returns
 returns c =

@@ -52,8 +52,11 @@ returns c =
     let l = a.l in
     let e = fill-number l a.output.now n.result (n.ensures l m.ensures refl) in
     let made = c.with_sender-after.ensures in
-    (elim j.branch [ then-n-eq0 w ↦ let p = w.put_fill-s in
-    fill_done l a.output.now n.result e c.with_sender-after.result j.count j.output p.result w.if-n-eq0.true
-    (subst (λ (o : List ℕ). Puts a.output.now (sender l.transmitter) (fill_out l.transmitter) 0 p.result o) (sym w.output-is) p.ensures)
-    (made ∙ ap₂ (with_sender l) (w.t-is ∙ w.transmitter_after-t.ensures) (w.v-is ∙ w.with_event-v.ensures ∙ ap {B = Supervision} (λ (event : ℕ). record { monitor = l.supervision.monitor; events = bit_or l.supervision.events event }) w.fill_event.ensures)) w.count-is | else-n-eq0 w ↦ fill-refused l a.output.now n.result e c.with_sender-after.result j.count j.output w.if-n-eq0.false
-    (made ∙ ap₂ (with_sender l) w.t-is w.v-is) w.count-is w.output-is ])
+    (elim j.branch [
+      | then-n-eq0 w ↦ let p = w.put_fill-s in
+          fill_done l a.output.now n.result e c.with_sender-after.result j.count j.output p.result w.if-n-eq0.true
+          (subst (λ (o : List ℕ). Puts a.output.now (sender l.transmitter) (fill_out l.transmitter) 0 p.result o) (sym w.output-is) p.ensures)
+          (made ∙ ap₂ (with_sender l) (w.t-is ∙ w.transmitter_after-t.ensures) (w.v-is ∙ w.with_event-v.ensures ∙ ap {B = Supervision} (λ (event : ℕ). record { monitor = l.supervision.monitor; events = bit_or l.supervision.events event }) w.fill_event.ensures)) w.count-is
+      | else-n-eq0 w ↦ fill-refused l a.output.now n.result e c.with_sender-after.result j.count j.output w.if-n-eq0.false
+          (made ∙ ap₂ (with_sender l) w.t-is w.v-is) w.count-is w.output-is
+    ])

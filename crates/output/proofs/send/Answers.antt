@@ -66,8 +66,11 @@ returns c =
     let l = a.l in
     let e = n.ensures l m.ensures refl in
     let made = c.with_sender-after.ensures in
-    (elim j.branch [ then-n-eq0 w ↦ let p = w.put_out-s in
-    send-done l a.content.now a.output.now n.result e c.with_sender-after.result j.count j.output p.result w.if-n-eq0.true
-    (subst (λ (o : List ℕ). Puts a.output.now (sender l.transmitter) (unit_out l.transmitter a.content.now) 0 p.result o) (sym w.output-is) p.ensures)
-    (made ∙ ap₂ (with_sender l) (w.t-is ∙ w.transmitter_after-t.ensures) (w.v-is ∙ w.with_event-v.ensures)) w.count-is | else-n-eq0 w ↦ send-refused l a.content.now a.output.now n.result e c.with_sender-after.result j.count j.output w.if-n-eq0.false
-    (made ∙ ap₂ (with_sender l) w.t-is w.v-is) w.count-is w.output-is ])
+    (elim j.branch [
+      | then-n-eq0 w ↦ let p = w.put_out-s in
+          send-done l a.content.now a.output.now n.result e c.with_sender-after.result j.count j.output p.result w.if-n-eq0.true
+          (subst (λ (o : List ℕ). Puts a.output.now (sender l.transmitter) (unit_out l.transmitter a.content.now) 0 p.result o) (sym w.output-is) p.ensures)
+          (made ∙ ap₂ (with_sender l) (w.t-is ∙ w.transmitter_after-t.ensures) (w.v-is ∙ w.with_event-v.ensures)) w.count-is
+      | else-n-eq0 w ↦ send-refused l a.content.now a.output.now n.result e c.with_sender-after.result j.count j.output w.if-n-eq0.false
+          (made ∙ ap₂ (with_sender l) w.t-is w.v-is) w.count-is w.output-is
+    ])

@@ -1,5 +1,4 @@
 -- `reception::take_line` meets its contract: the octets so far are taken.
-use Prim.Native.Nat.{◌-◌}
 use mathlib.Core.Path.{refl}
 use native.Mathlib.Omega.{arith}
 use Rattle.indications.specs.InnerWriting.{holding}
@@ -21,7 +20,7 @@ take_octet-passed-requires c =
     let p = c.requires in
     let l = c.loop-at in
     let k = room-left a.s a.line a.area.now (holding a.p a.pool.now a.descriptors.now a.out.now) a.octets.now l.at c.loop-at-test.true (record { line = l.cur; progress = l.q }) l.area (holding l.q l.pool l.descriptors l.out) p.well_formed.1 l.invariant.1 in
-     record { able = next-able a.s l.q l.pool l.descriptors l.out p.settings_in_range.0 l.invariant.1.ready k; well_formed = (l.invariant.1.held, k); table_value = p.table_value }
+    record { able = next-able a.s l.q l.pool l.descriptors l.out p.settings_in_range.0 l.invariant.1.ready k; well_formed = (l.invariant.1.held, k); table_value = p.table_value }
 
 pub overflow_add-at : goal.overflow_add-at
 overflow_add-at c = omega (arith, c.loop-at-test.true, c.requires.well_formed.2)

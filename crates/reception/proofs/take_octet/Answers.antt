@@ -16,14 +16,14 @@ loop-left-init c =
 pub feed-fed-requires : goal.feed-fed-requires
 feed-fed-requires c =
     let b = c.loop-left.invariant in
-     record { m_bound = (b.settings.m.1, b.few); well_formed = b.held }
+    record { m_bound = (b.settings.m.1, b.few); well_formed = b.held }
 
 pub take_found-q-requires : goal.take_found-q-requires
 take_found-q-requires c =
     let b = c in
     let a = b.args in
     let l = c.loop-left in
-    let f = c.feed-fed in  record { able = able a.s a.line a.area.now a.octet (holding a.p a.pool.now a.descriptors.now a.out.now) l.area l.pool l.descriptors l.out l.cur l.rest l.left l.q l.invariant; stands_in = stands-in a.s.m f.result.step.line f.result.step.found f.new.area l.invariant.settings.m.1 f.ensures.step.holds; table_value = b.requires.table_value }
+    let f = c.feed-fed in record { able = able a.s a.line a.area.now a.octet (holding a.p a.pool.now a.descriptors.now a.out.now) l.area l.pool l.descriptors l.out l.cur l.rest l.left l.q l.invariant; stands_in = stands-in a.s.m f.result.step.line f.result.step.found f.new.area l.invariant.settings.m.1 f.ensures.step.holds; table_value = b.requires.table_value }
 
 pub loop-left-smaller : goal.loop-left-smaller
 loop-left-smaller c =

@@ -17,7 +17,7 @@ overflow_cast-row c =
 pub put_piece-requires : goal.put_piece-requires
 put_piece-requires c =
     let s = c in
-    let w = row-says s.args.rows.now s.args.t.ones s.args.octet s.requires.rows_value s.requires.tx_in_range.0.short (omega arith) in  record { tx_in_range = (s.requires.tx_in_range.0, subst (λ (x : List Bool). Room s.args.t x s.args.out.now) (sym w.piece) s.requires.tx_in_range.1); piece_bound = (w.small, omega arith, omega (arith, w.few)) }
+    let w = row-says s.args.rows.now s.args.t.ones s.args.octet s.requires.rows_value s.requires.tx_in_range.0.short (omega arith) in record { tx_in_range = (s.requires.tx_in_range.0, subst (λ (x : List Bool). Room s.args.t x s.args.out.now) (sym w.piece) s.requires.tx_in_range.1); piece_bound = (w.small, omega arith, omega (arith, w.few)) }
 
 pub returns : goal.returns
 returns c =

@@ -1,5 +1,5 @@
 -- `sending::put_octets` meets its contract: the octets that are left, stuffed and put from here, give the whole.
-use Prim.Native.Nat.{ℕ, ◌+◌, ◌-◌, ◌<◌}
+use Prim.Native.Nat.{ℕ, ◌+◌, ◌<◌}
 use mathlib.Core.Path.{subst}
 use mathlib.Core.Bool.{Bool}
 use mathlib.Core.List.{List, ◌++◌}
@@ -24,8 +24,11 @@ loop-i-init c =
 pub put_octet-s-requires : goal.put_octet-s-requires
 put_octet-s-requires c =
     let l = c in
-    let a = l.args in  record { tx_in_range = going-room a.out.now a.t (line_bits a.octets.now) l.loop-i.out l.loop-i.s (bits_of 8 (get_or a.octets.now l.loop-i.i 0)) (line_bits (drop (l.loop-i.i + 1) a.octets.now))
-          (first a.out.now a.t a.octets.now l.loop-i.out l.loop-i.s l.loop-i.i c.loop-i-test.true l.loop-i.invariant.1); rows_value = l.requires.rows_value }
+    let a = l.args in record {
+      tx_in_range = going-room a.out.now a.t (line_bits a.octets.now) l.loop-i.out l.loop-i.s (bits_of 8 (get_or a.octets.now l.loop-i.i 0)) (line_bits (drop (l.loop-i.i + 1) a.octets.now))
+          (first a.out.now a.t a.octets.now l.loop-i.out l.loop-i.s l.loop-i.i c.loop-i-test.true l.loop-i.invariant.1);
+      rows_value = l.requires.rows_value;
+    }
 
 pub loop-i-preserved : goal.loop-i-preserved
 loop-i-preserved c =

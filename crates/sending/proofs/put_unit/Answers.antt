@@ -6,14 +6,17 @@ pub put_octets-a-requires : goal.put_octets-a-requires
 put_octets-a-requires c =
     let s = c in
     let check = c.check_octets-check in
-     record { tx_in_range = content-room s.args.out.now s.args.t s.args.content.now check.result check.ensures s.requires.0 s.requires.1; rows_value = c.stuffing_table-rows.ensures }
+    record { tx_in_range = content-room s.args.out.now s.args.t s.args.content.now check.result check.ensures s.requires.0 s.requires.1; rows_value = c.stuffing_table-rows.ensures }
 
 pub put_octets-b-requires : goal.put_octets-b-requires
 put_octets-b-requires c =
     let a = c in
     let s = a in
-    let check = a.check_octets-check in  record { tx_in_range = check-room s.args.out.now s.args.t s.args.content.now check.result check.ensures s.requires.0 s.requires.1
-          a.put_octets-a.result a.put_octets-a.new.out a.put_octets-a.ensures; rows_value = a.stuffing_table-rows.ensures }
+    let check = a.check_octets-check in record {
+      tx_in_range = check-room s.args.out.now s.args.t s.args.content.now check.result check.ensures s.requires.0 s.requires.1
+          a.put_octets-a.result a.put_octets-a.new.out a.put_octets-a.ensures;
+      rows_value = a.stuffing_table-rows.ensures;
+    }
 
 pub put_flag-requires : goal.put_flag-requires
 put_flag-requires c =

@@ -1,17 +1,11 @@
 -- `units::closed_unit` meets its contract: each verdict leads to what is done with such a unit.
-use Rattle.std.proofs.Common.{◌≡◌, ◌/◌, ◌≤◌, length, take, sym, ◌∙◌, arith}
-use Rattle.bits.specs.Octets.{line_bits}
-use Rattle.bits.specs.Format.{basic}
-use Rattle.framing.specs.declared.Verdict.{Verdict}
-use Rattle.framing.specs.Verdict.{verdict_of}
+use Rattle.std.proofs.Common.{sym, ◌∙◌, arith}
 use Rattle.units.specs.Units.{unit_memory}
 use Rattle.units.proofs.Closing.{area-length, good-octets, closed-short, closed-not-whole, closed-wrong, closed-good}
 use Rattle.units.proofs.closed_unit.Goals as goal
 
-
-
 pub verdict-verdict-requires : goal.verdict-verdict-requires
-verdict-verdict-requires c = let s = c in  record { bits_bound = (s.requires.bits_bound.0, area-length c.args.area.now c.args.bits c.requires.bits_bound.0 c.requires.bits_bound.1); table_value = s.requires.table_value }
+verdict-verdict-requires c = let s = c in record { bits_bound = (s.requires.bits_bound.0, area-length c.args.area.now c.args.bits c.requires.bits_bound.0 c.requires.bits_bound.1); table_value = s.requires.table_value }
 
 pub short_unit-requires : goal.short_unit-requires
 short_unit-requires c = (omega (arith, c.requires.bits_bound.0), area-length c.args.area.now c.args.bits c.requires.bits_bound.0 c.requires.bits_bound.1)
@@ -19,12 +13,12 @@ short_unit-requires c = (omega (arith, c.requires.bits_bound.0), area-length c.a
 pub errored_unit-requires : goal.errored_unit-requires
 errored_unit-requires c =
     let s = c in
-     record { fits = s.requires.fits; count_bound = (omega (arith, c.requires.bits_bound.0), area-length c.args.area.now c.args.bits c.requires.bits_bound.0 c.requires.bits_bound.1) }
+    record { fits = s.requires.fits; count_bound = (omega (arith, c.requires.bits_bound.0), area-length c.args.area.now c.args.bits c.requires.bits_bound.0 c.requires.bits_bound.1) }
 
 pub errored_unit-requires-in-CheckWrong : goal.errored_unit-requires-in-CheckWrong
 errored_unit-requires-in-CheckWrong c =
     let s = c in
-     record { fits = s.requires.fits; count_bound = (omega (arith, c.requires.bits_bound.0), area-length c.args.area.now c.args.bits c.requires.bits_bound.0 c.requires.bits_bound.1) }
+    record { fits = s.requires.fits; count_bound = (omega (arith, c.requires.bits_bound.0), area-length c.args.area.now c.args.bits c.requires.bits_bound.0 c.requires.bits_bound.1) }
 
 pub good_unit-requires : goal.good_unit-requires
 good_unit-requires c =
@@ -32,7 +26,7 @@ good_unit-requires c =
     let v = m in
     let s = v in
     let long = good-octets s.args.area.now s.args.bits s.requires.bits_bound.0 s.requires.bits_bound.1 (sym c.verdict-verdict.ensures ∙ m.in-Good.is) in
-     record { fits = s.requires.fits; le_count = (long, omega (arith, c.requires.bits_bound.0), area-length c.args.area.now c.args.bits c.requires.bits_bound.0 c.requires.bits_bound.1) }
+    record { fits = s.requires.fits; le_count = (long, omega (arith, c.requires.bits_bound.0), area-length c.args.area.now c.args.bits c.requires.bits_bound.0 c.requires.bits_bound.1) }
 
 pub returns-in-Short : goal.returns-in-Short
 returns-in-Short c =

@@ -16,5 +16,8 @@ returns c =
     let m = j.is_malformed-malformed in
     let l = j.args.link in
     let e = n.ensures l m.ensures refl in
-    (elim j.if-n-eq0.branch [ then-n-eq0 w ↦ number-done _ _ e l _ w.if-n-eq0.true
-    (ap (with_supervision l) (w.v-is ∙ ap {B = Supervision} (λ (events : ℕ). record { monitor = l.supervision.monitor; events = events }) w.without_bits-left.ensures)) | else-n-eq0 w ↦ number-refused _ _ e l _ _ w.if-n-eq0.false (ap (with_supervision l) w.v-is) ])
+    (elim j.if-n-eq0.branch [
+      | then-n-eq0 w ↦ number-done _ _ e l _ w.if-n-eq0.true
+          (ap (with_supervision l) (w.v-is ∙ ap {B = Supervision} (λ (events : ℕ). record { monitor = l.supervision.monitor; events = events }) w.without_bits-left.ensures))
+      | else-n-eq0 w ↦ number-refused _ _ e l _ _ w.if-n-eq0.false (ap (with_supervision l) w.v-is)
+    ])

@@ -15,5 +15,8 @@ returns c =
     let m = j.is_malformed-malformed in
     let l = j.args.link in
     let e = n.ensures l m.ensures refl in
-    (elim j.if-n-eq0.branch [ then-n-eq0 w ↦ number-done _ _ e l _ w.if-n-eq0.true
-    (ap₂ (with_reception l l.line) w.u-is w.v-is ∙ obeys l _ _ _ _ w.command_of-code.ensures (w.obey_monitor-m.ensures l refl) (w.obey_units-u.ensures l refl)) | else-n-eq0 w ↦ number-refused _ _ e l _ _ w.if-n-eq0.false (ap₂ (with_reception l l.line) w.u-is w.v-is) ])
+    (elim j.if-n-eq0.branch [
+      | then-n-eq0 w ↦ number-done _ _ e l _ w.if-n-eq0.true
+          (ap₂ (with_reception l l.line) w.u-is w.v-is ∙ obeys l _ _ _ _ w.command_of-code.ensures (w.obey_monitor-m.ensures l refl) (w.obey_units-u.ensures l refl))
+      | else-n-eq0 w ↦ number-refused _ _ e l _ _ w.if-n-eq0.false (ap₂ (with_reception l l.line) w.u-is w.v-is)
+    ])
