@@ -1,26 +1,7 @@
 -- `bench_calls::book` is safe and ends: a call less is left after each turn.
 use mathlib.Core.Path.{◌∙◌}
 use native.Mathlib.Omega.{arith}
-use borrow.Author.Rules.{rules}
 use Rattle.bench_calls.proofs.book.Goals as goal
-
-pub loop-left-init : goal.loop-left-init
-loop-left-init c = search rules
-
-pub wipe-closed-requires : goal.wipe-closed-requires
-wipe-closed-requires c = search rules
-
-pub settings-s-requires : goal.settings-s-requires
-settings-s-requires c = search rules
-
-pub open-opened-requires : goal.open-opened-requires
-open-opened-requires c = search rules
-
-pub overflow_cast-opened : goal.overflow_cast-opened
-overflow_cast-opened c = search rules
-
-pub add-sum-requires : goal.add-sum-requires
-add-sum-requires c = search rules
 
 pub overflow_sub-left : goal.overflow_sub-left
 overflow_sub-left c = omega (arith, c.loop-left-test.true)
@@ -34,6 +15,3 @@ loop-left-preserved c =
     let w = c.wipe-closed in
     let l = c.loop-left in
     (o.auto.pool ∙ w.auto.octets ∙ l.invariant.0, o.auto.descriptors ∙ w.auto.words ∙ l.invariant.1)
-
-pub returns : goal.returns
-returns c = search rules

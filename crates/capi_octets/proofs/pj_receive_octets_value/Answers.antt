@@ -1,16 +1,6 @@
 -- `capi_octets::pj_receive_octets_value` meets its contract: line octets taken by the link of the host.
 use Rattle.host_calls.proofs.Answers.{receive-is}
-use borrow.Author.Rules.{rules}
 use Rattle.capi_octets.proofs.pj_receive_octets_value.Goals as goal
-
-pub from_host-l-requires : goal.from_host-l-requires
-from_host-l-requires c = search rules
-
-pub receive_octets-answer-requires : goal.receive_octets-answer-requires
-receive_octets-answer-requires c = search rules
-
-pub given_back-back-requires : goal.given_back-back-requires
-given_back-back-requires c = search rules
 
 pub returns : goal.returns
 returns c =

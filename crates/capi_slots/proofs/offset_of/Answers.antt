@@ -1,10 +1,6 @@
 -- `capi_slots::offset_of` meets its contract: the slot of an accepted call, or 0.
 use borrow.Author.Tests.{ne_eqb}
-use borrow.Author.Rules.{rules}
 use Rattle.capi_slots.proofs.offset_of.Goals as goal
-
-pub overflow_mul-result : goal.overflow_mul-result
-overflow_mul-result c = search rules
 
 pub returns-then-number-eq0 : goal.returns-then-number-eq0
 returns-then-number-eq0 c = rw c.if-number-eq0.true

@@ -1,16 +1,6 @@
 -- `indications::end_octet` meets its contract: a tick, or none.
 use Rattle.indications.proofs.Ends.{tick-way, not-counting, not-due}
-use borrow.Author.Rules.{rules}
 use Rattle.indications.proofs.end_octet.Goals as goal
-
-pub count_down-left-requires : goal.count_down-left-requires
-count_down-left-requires c = search rules
-
-pub tick-happening-requires : goal.tick-happening-requires
-tick-happening-requires c = search rules
-
-pub note_and_record-requires : goal.note_and_record-requires
-note_and_record-requires c = search rules
 
 pub returns-then-counting : goal.returns-then-counting
 returns-then-counting c =

@@ -1,19 +1,12 @@
 -- `indications::note_and_record` meets its contract: what the monitor notes is what is recorded.
 use Rattle.indications.proofs.Recording.{note-and-record-way}
 use Rattle.records.proofs.Range.{range-takes}
-use borrow.Author.Rules.{rules}
 use Rattle.indications.proofs.note_and_record.Goals as goal
 
 pub note-noted-requires : goal.note-noted-requires
 note-noted-requires c =
     let s = c in
     range-takes s.args.s s.args.supervision.monitor s.requires.0 s.requires.1
-
-pub write_record-requires : goal.write_record-requires
-write_record-requires c = search rules
-
-pub overflow_add-result : goal.overflow_add-result
-overflow_add-result c = search rules
 
 pub returns : goal.returns
 returns c =

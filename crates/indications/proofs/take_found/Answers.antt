@@ -1,7 +1,6 @@
 -- `indications::take_found` meets its contract, finding by finding.
 use Rattle.indications.proofs.Findings.{nothing-way, closed-way, abort-way, long-way, stands, clear-area}
 use native.Mathlib.Omega.{arith}
-use borrow.Author.Rules.{rules}
 use Rattle.indications.proofs.take_found.Goals as goal
 
 pub closed_unit-taken-requires : goal.closed_unit-taken-requires
@@ -28,16 +27,10 @@ note_and_record-requires c =
     let s = c in
     (s.requires.able.settings, s.requires.able.monitor, s.requires.able.room)
 
-pub break_off-taken-requires : goal.break_off-taken-requires
-break_off-taken-requires c = search rules
-
 pub note_and_record-requires-in-Abort : goal.note_and_record-requires-in-Abort
 note_and_record-requires-in-Abort c =
     let s = c in
     (s.requires.able.settings, s.requires.able.monitor, s.requires.able.room)
-
-pub break_off-taken-requires-in-Long : goal.break_off-taken-requires-in-Long
-break_off-taken-requires-in-Long c = search rules
 
 pub note_and_record-requires-in-Long : goal.note_and_record-requires-in-Long
 note_and_record-requires-in-Long c =

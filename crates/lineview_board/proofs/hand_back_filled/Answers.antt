@@ -4,7 +4,6 @@ use mathlib.Core.Path.{◌≡◌, refl, sym, ap, ap₂, ◌∙◌}
 use mathlib.Core.List.{List}
 use native.Mathlib.Omega.{arith}
 use lib.ListN.{length}
-use borrow.Author.Rules.{rules}
 use borrow.Author.Tests.{eqb-true, not-false}
 use Rattle.link.specs.Held.{Held, handed_back}
 use Rattle.lineview_board.proofs.Views.{slot-handed, slot-empty, slot-more, all_back}
@@ -14,18 +13,6 @@ use Rattle.lineview_board.proofs.hand_back_filled.Goals.{else-is_filled, then-is
 
 pub loop-slot-init : goal.loop-slot-init
 loop-slot-init c = (omega arith, refl, refl, refl)
-
-pub is_filled-requires : goal.is_filled-requires
-is_filled-requires c = tt
-
-pub hand_back-requires : goal.hand_back-requires
-hand_back-requires c = tt
-
-pub overflow_add-slot : goal.overflow_add-slot
-overflow_add-slot c = search rules
-
-pub loop-slot-smaller : goal.loop-slot-smaller
-loop-slot-smaller c = search rules
 
 pub loop-slot-preserved : goal.loop-slot-preserved
 loop-slot-preserved c =

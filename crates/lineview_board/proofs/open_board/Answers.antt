@@ -1,19 +1,6 @@
 -- `lineview_board::open_board` meets its contract: opened, then command 2.
 use Rattle.lineview_board.proofs.Views.{board-opened-is}
-use borrow.Author.Rules.{rules}
 use Rattle.lineview_board.proofs.open_board.Goals as goal
-
-pub new-closed-requires : goal.new-closed-requires
-new-closed-requires c = search rules
-
-pub settings-s-requires : goal.settings-s-requires
-settings-s-requires c = search rules
-
-pub open-opened-requires : goal.open-opened-requires
-open-opened-requires c = search rules
-
-pub command-started-requires : goal.command-started-requires
-command-started-requires c = search rules
 
 pub returns : goal.returns
 returns c =

@@ -14,9 +14,6 @@ loop-i-init c = (omega arith, fed-none _ _ _, refl, refl, refl)
 pub slice_bounds-feed-count : goal.slice_bounds-feed-count
 slice_bounds-feed-count c = omega (arith, c.loop-i.invariant.1.few)
 
-pub feed-fed-requires : goal.feed-fed-requires
-feed-fed-requires c = tt
-
 pub overflow_mul-at : goal.overflow_mul-at
 overflow_mul-at c = omega (arith, fed-few _ _ _ _ _ c.feed-fed.ensures)
 

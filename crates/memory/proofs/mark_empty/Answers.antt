@@ -8,9 +8,6 @@ use Rattle.memory.proofs.mark_empty.Goals as goal
 pub loop-i-init : goal.loop-i-init
 loop-i-init c = write-start _ _ (empty-length c.args.k ∙ sym c.requires)
 
-pub empty_word-requires : goal.empty_word-requires
-empty_word-requires c = tt
-
 pub loop-i-smaller : goal.loop-i-smaller
 loop-i-smaller c = omega (arith, c.loop-i.invariant.long)
 

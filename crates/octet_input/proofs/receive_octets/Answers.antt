@@ -2,24 +2,8 @@
 use mathlib.Core.Path.{refl}
 use Rattle.bits.proofs.Typed.{array-of-octets}
 use Rattle.input.proofs.Receiving.{may-take, receive-refused, receive-done}
-use borrow.Author.Rules.{rules}
 use Rattle.octet_input.proofs.receive_octets.Goals as goal
 use Rattle.octet_input.proofs.receive_octets.Goals.{else-n-eq0, then-n-eq0}
-
-pub is_malformed-malformed-requires : goal.is_malformed-malformed-requires
-is_malformed-malformed-requires c = search rules
-
-pub receive_number-n-requires : goal.receive_number-n-requires
-receive_number-n-requires c = search rules
-
-pub progress_of-q-requires : goal.progress_of-q-requires
-progress_of-q-requires c = search rules
-
-pub row_table-rows-requires : goal.row_table-rows-requires
-row_table-rows-requires c = search rules
-
-pub check_table-table-requires : goal.check_table-table-requires
-check_table-table-requires c = search rules
 
 pub take_line-passed-requires : goal.take_line-passed-requires
 take_line-passed-requires c =
@@ -33,9 +17,6 @@ take_line-passed-requires c =
     let typed = array-of-octets 279 l.line.area _ s.well_formed.0.1.1.1.1.0.1.1.1.0 in
     let w = may-take l a.octets.now a.pool.now a.descriptors.now a.records.now n.result (n.ensures l m.ensures refl refl) d.progress_of-q.result d.progress_of-q.ensures i.if-n-eq0.true typed in
     record { settings_in_range = w.0; well_formed = w.1; rows_value = (c.row_table-rows.ensures, c.check_table-table.ensures) }
-
-pub link_received-l-requires : goal.link_received-l-requires
-link_received-l-requires c = search rules
 
 pub returns : goal.returns
 returns c =

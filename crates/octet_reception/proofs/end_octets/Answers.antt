@@ -1,21 +1,8 @@
 -- `octet_reception::end_octets` meets its contract: the tick of the last octet, or none.
 use native.Mathlib.Omega.{arith}
-use borrow.Author.Rules.{rules}
 use Rattle.octet_reception.proofs.Counter.{quiet-off, quiet-early, ends-quiet, ends-tick}
 use Rattle.units.specs.Units.{unit_memory}
 use Rattle.octet_reception.proofs.end_octets.Goals as goal
-
-pub wound-left-requires : goal.wound-left-requires
-wound-left-requires c = search rules
-
-pub overflow_cast-counting : goal.overflow_cast-counting
-overflow_cast-counting c = search rules
-
-pub tick-happening-requires : goal.tick-happening-requires
-tick-happening-requires c = search rules
-
-pub note_and_record-requires : goal.note_and_record-requires
-note_and_record-requires c = search rules
 
 pub returns-then-gone-counting : goal.returns-then-gone-counting
 returns-then-gone-counting c =

@@ -3,15 +3,8 @@ use Prim.Native.Nat.{◌-◌}
 use mathlib.Core.Path.{sym}
 use native.Mathlib.Nat.{mod-lt}
 use native.Mathlib.Omega.{arith}
-use borrow.Author.Rules.{rules}
 use Rattle.octet_reception.proofs.Counter.{wound-down, wound-round}
 use Rattle.octet_reception.proofs.wound.Goals as goal
-
-pub overflow_cast-result : goal.overflow_cast-result
-overflow_cast-result c = search rules
-
-pub overflow_sub-result : goal.overflow_sub-result
-overflow_sub-result c = search rules
 
 pub returns-then-gone-first : goal.returns-then-gone-first
 returns-then-gone-first c =

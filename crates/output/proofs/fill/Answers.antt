@@ -9,15 +9,8 @@ use Rattle.board.specs.With.{with_sender}
 use Rattle.sending.specs.InnerPutting.{Puts}
 use Rattle.output.specs.Output.{sender, fill_out}
 use Rattle.output.proofs.Outputs.{fill-number, fillable, ready, fill-room, fill-refused, fill_done}
-use borrow.Author.Rules.{rules}
 use Rattle.output.proofs.fill.Goals as goal
 use Rattle.output.proofs.fill.Goals.{else-n-eq0, then-n-eq0}
-
-pub is_malformed-malformed-requires : goal.is_malformed-malformed-requires
-is_malformed-malformed-requires c = search rules
-
-pub shared_number-n-requires : goal.shared_number-n-requires
-shared_number-n-requires c = search rules
 
 pub put_fill-s-requires : goal.put_fill-s-requires
 put_fill-s-requires c =
@@ -29,18 +22,6 @@ put_fill-s-requires c =
     let ok = fillable a.l a.output.now (sym e ∙ c.if-n-eq0.true) in
     let typed = array-of-octets 2 a.l.transmitter.last _ s.well_formed.0.1.1.1.1.1.1.1.0.1.1.1.1.1.1.0 in
     (ready a.l ok.formed s.well_formed.0.1.1.1.1.1.1.1.0.1.1.1.1.0.1, fill-room a.l a.output.now ok typed.0)
-
-pub transmitter_after-t-requires : goal.transmitter_after-t-requires
-transmitter_after-t-requires c = search rules
-
-pub fill_event-requires : goal.fill_event-requires
-fill_event-requires c = search rules
-
-pub with_event-v-requires : goal.with_event-v-requires
-with_event-v-requires c = search rules
-
-pub with_sender-after-requires : goal.with_sender-after-requires
-with_sender-after-requires c = search rules
 
 pub returns : goal.returns
 returns c =

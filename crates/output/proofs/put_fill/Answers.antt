@@ -1,16 +1,12 @@
 -- `output::put_fill` meets its contract: a flag before any content, or the unit of the last content.
 use mathlib.Core.Path.{sym, subst}
 use borrow.Author.Tests.{not-true, not-false}
-use borrow.Author.Rules.{rules}
 use Rattle.bits.proofs.Typed.{array-of-octets}
 use Rattle.sending.specs.declared.Tx.{Tx}
 use Rattle.sending.specs.Stuffing.{flag}
 use Rattle.sending.specs.InnerPutting.{Puts, TxInRange, Room}
 use Rattle.output.proofs.Outputs.{fill-flag-room, fill-flag-puts, fill-unit-room, fill-unit-puts}
 use Rattle.output.proofs.put_fill.Goals as goal
-
-pub sender_of-s-requires : goal.sender_of-s-requires
-sender_of-s-requires c = search rules
 
 pub put_flag-requires : goal.put_flag-requires
 put_flag-requires c =
@@ -25,15 +21,6 @@ returns-then-not-t c =
     let a = c.args in
     fill-flag-puts a.t a.output.now (not-true _ c.if-not-t.true) f.result f.new.out
     (subst (λ (x : Tx). Puts a.output.now x flag 0 f.result f.new.out) c.sender_of-s.ensures f.ensures)
-
-pub bounds-last-0 : goal.bounds-last-0
-bounds-last-0 c = search rules
-
-pub bounds-last-1 : goal.bounds-last-1
-bounds-last-1 c = search rules
-
-pub slice_bounds-put_out-end : goal.slice_bounds-put_out-end
-slice_bounds-put_out-end c = search rules
 
 pub put_out-requires : goal.put_out-requires
 put_out-requires c =

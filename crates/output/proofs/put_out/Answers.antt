@@ -4,11 +4,7 @@ use Rattle.sending.specs.declared.Tx.{Tx}
 use Rattle.sending.specs.Stuffing.{flag, unit_line}
 use Rattle.sending.specs.InnerPutting.{Puts, TxInRange, Room}
 use Rattle.output.proofs.Outputs.{flagged-room, flagged-puts, first-room, then_ready, then-puts}
-use borrow.Author.Rules.{rules}
 use Rattle.output.proofs.put_out.Goals as goal
-
-pub sender_of-s-requires : goal.sender_of-s-requires
-sender_of-s-requires c = search rules
 
 pub put_unit-requires : goal.put_unit-requires
 put_unit-requires c =

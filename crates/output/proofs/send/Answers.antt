@@ -12,12 +12,6 @@ use borrow.Author.Rules.{rules}
 use Rattle.output.proofs.send.Goals as goal
 use Rattle.output.proofs.send.Goals.{else-n-eq0, then-n-eq0}
 
-pub is_malformed-malformed-requires : goal.is_malformed-malformed-requires
-is_malformed-malformed-requires c = search rules
-
-pub send_number-n-requires : goal.send_number-n-requires
-send_number-n-requires c = search rules
-
 pub put_out-s-requires : goal.put_out-s-requires
 put_out-s-requires c =
     let s = c in
@@ -46,15 +40,6 @@ bounds-content-1 c =
     let ok = sendable a.l a.content.now a.output.now (sym (n.ensures a.l m.ensures refl) ∙ c.if-n-eq0.true) in
     let h : 1 < length a.content.now = omega (arith, ok.1) in
     search (rules, h)
-
-pub transmitter_after-t-requires : goal.transmitter_after-t-requires
-transmitter_after-t-requires c = search rules
-
-pub with_event-v-requires : goal.with_event-v-requires
-with_event-v-requires c = search rules
-
-pub with_sender-after-requires : goal.with_sender-after-requires
-with_sender-after-requires c = search rules
 
 pub returns : goal.returns
 returns c =

@@ -2,18 +2,6 @@
 use Rattle.std.proofs.Common.{rules}
 use Rattle.units.proofs.counted.Goals as goal
 
-pub wrapping_add_u16-good-requires : goal.wrapping_add_u16-good-requires
-wrapping_add_u16-good-requires c = search rules
-
-pub wrapping_add_u16-requires : goal.wrapping_add_u16-requires
-wrapping_add_u16-requires c = search rules
-
-pub wrapping_add_u16-requires-in-Dropped : goal.wrapping_add_u16-requires-in-Dropped
-wrapping_add_u16-requires-in-Dropped c = search rules
-
-pub wrapping_add_u16-requires-in-Lost : goal.wrapping_add_u16-requires-in-Lost
-wrapping_add_u16-requires-in-Lost c = search rules
-
 pub returns-in-HandedOver : goal.returns-in-HandedOver
 returns-in-HandedOver c =
     let g = c in

@@ -1,42 +1,12 @@
 -- `units::good_unit` meets its contract: the unit goes the way that the filter settles.
-use Rattle.std.proofs.Common.{arith, rules}
+use Rattle.std.proofs.Common.{arith}
 use Rattle.units.proofs.Ways.{good-over, good-dropped, good-lost}
 use Rattle.units.proofs.good_unit.Goals as goal
-
-pub is_free-free-requires : goal.is_free-free-requires
-is_free-free-requires c = search rules
-
-pub first_five-first-requires : goal.first_five-first-requires
-first_five-first-requires c = search rules
-
-pub settle-settled-requires : goal.settle-settled-requires
-settle-settled-requires c = search rules
-
-pub counted-counts-requires : goal.counted-counts-requires
-counted-counts-requires c = search rules
 
 pub store_next-after-requires : goal.store_next-after-requires
 store_next-after-requires c =
     let s = c in
     (omega (arith, s.requires), omega (arith, s.requires), omega (arith, s.requires))
-
-pub unit_state-requires : goal.unit_state-requires
-unit_state-requires c = search rules
-
-pub event_of-requires : goal.event_of-requires
-event_of-requires c = search rules
-
-pub unit_state-requires-in-Dropped : goal.unit_state-requires-in-Dropped
-unit_state-requires-in-Dropped c = search rules
-
-pub event_of-requires-in-Dropped : goal.event_of-requires-in-Dropped
-event_of-requires-in-Dropped c = search rules
-
-pub unit_state-requires-in-Lost : goal.unit_state-requires-in-Lost
-unit_state-requires-in-Lost c = search rules
-
-pub event_of-requires-in-Lost : goal.event_of-requires-in-Lost
-event_of-requires-in-Lost c = search rules
 
 pub returns-in-HandedOver : goal.returns-in-HandedOver
 returns-in-HandedOver c =

@@ -3,9 +3,6 @@ use Rattle.std.proofs.Common.{rules}
 use Rattle.units.proofs.FirstFive.{octet-in, octet-past}
 use Rattle.units.proofs.octet_at.Goals as goal
 
-pub bounds-area-at : goal.bounds-area-at
-bounds-area-at c = search rules
-
 pub returns-then-at-count : goal.returns-then-at-count
 returns-then-at-count c =
     let s = c.args in

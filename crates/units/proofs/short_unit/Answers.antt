@@ -1,5 +1,5 @@
 -- `units::short_unit` meets its contract: its record has the whole octets, and the unit state stays.
-use Rattle.std.proofs.Common.{◌≡◌, ℕ, ◌≤◌, false, List, length, take, sym, ◌∙◌, arith, length-take-le, rules}
+use Rattle.std.proofs.Common.{◌≡◌, ℕ, ◌≤◌, false, List, length, take, sym, ◌∙◌, arith, length-take-le}
 use Rattle.records.specs.declared.RecordKind.{RecordKind}
 use Rattle.records.specs.declared.RecordKind.TheVariants as kinds
 use Rattle.records.specs.declared.Happening.{Happening}
@@ -11,12 +11,6 @@ use Rattle.units.proofs.short_unit.Goals.{After-first_five-first}
 abbrev bare : RecordKind → ℕ → List ℕ → ℕ → Happening
 bare kind count first good =
     record { kind = kind; lost = false; length = count; first = first; good = good; event = false; errored = false; bits = 0 }
-
-pub first_five-first-requires : goal.first_five-first-requires
-first_five-first-requires c = search rules
-
-pub bare_of-requires : goal.bare_of-requires
-bare_of-requires c = search rules
 
 -- the record's length and first octets are those of the whole octets
 noted : (s : After-first_five-first) → bare kinds.Short s.args.count s.first_five-first.result s.args.units.counts.good

@@ -2,15 +2,8 @@
 use mathlib.Core.Path.{sym, ap, ◌∙◌}
 use mathlib.Core.List.{List}
 use Prim.Native.Nat.{ℕ}
-use borrow.Author.Rules.{rules}
 use Rattle.input.specs.Receive.{receive_answer}
 use Rattle.octet_input.proofs.alike.receive_by_both.Goals as goal
-
-pub receive-by_bits-requires : goal.receive-by_bits-requires
-receive-by_bits-requires c = search rules
-
-pub receive_octets-by_octets-requires : goal.receive_octets-by_octets-requires
-receive_octets-by_octets-requires c = search rules
 
 pub returns : goal.returns
 returns c p d r =
