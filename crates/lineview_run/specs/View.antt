@@ -17,5 +17,4 @@ Views before after input input' output output' =
 
 -- the same, whatever becomes of the booking
 abbrev pub ViewsAll : Held → Option (List ℕ) → Option (List ℕ) → Option (List ℕ) → Option (List ℕ) → Type 0
-ViewsAll before input input' output output' =
-    (octets : List ℕ) × Consumes input input' octets × Appends output output' (all_written before octets)
+ViewsAll before input input' output output' = (after : Held) × Views before after input input' output output'

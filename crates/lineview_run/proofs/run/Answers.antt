@@ -15,3 +15,9 @@ loop-left-preserved g c =
     let l = c.loop-left in
     let more : l.t.progress ≢ Unwritten = elim c.match-matches.branch [ in-More w ↦ search rules | in_default w ↦ search rules ] in
     (λ written. views-more _ _ _ _ _ _ _ _ _ (l.invariant.0 more) (c.read_some-t.ensures.viewed written), c.read_some-t.ensures.end, search rules, search rules)
+
+pub returns-else-matches-clause-viewed : goal.returns-else-matches-clause-viewed
+returns-else-matches-clause-viewed g c written = (_, c.loop-left.invariant.0 written)
+
+pub returns-after-loop-left-clause-viewed : goal.returns-after-loop-left-clause-viewed
+returns-after-loop-left-clause-viewed g c written = (_, c.loop-left.invariant.0 written)
