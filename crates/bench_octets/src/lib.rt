@@ -2,7 +2,9 @@
 
 #![tactic(auto)]
 
-// See `run_line` of bench_run: how many records came.
+use octet_reception::ByOctets;
+
+// See `run_line` of bench_run: how many records came. The switches are a number, for the C interface.
 #[unsafe(no_mangle)]
 pub extern "C" fn bench_octets(
     switches: u64,
@@ -13,14 +15,5 @@ pub extern "C" fn bench_octets(
     records: &mut [u8],
     output: &mut [u8],
 ) -> usize {
-    bench_run::run_line(
-        1,
-        switches,
-        lengths,
-        line,
-        pool,
-        descriptors,
-        records,
-        output,
-    )
+    bench_run::run_line::<ByOctets>(switches, lengths, line, pool, descriptors, records, output)
 }

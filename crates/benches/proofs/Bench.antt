@@ -1,12 +1,13 @@
 -- One bench: what a call of its own leaves alone, what a command does, and what a line octet brings.
 use Prim.Native.Nat.{ℕ, ◌*◌}
 use mathlib.Core.Path.{◌≡◌, refl, sym, ap, ◌∙◌}
-use mathlib.Core.Bool.{Bool, true, false, cond, false≢true}
+use mathlib.Core.Bool.{Bool, true, false, cond}
 use mathlib.Core.List.{List, [], ◌∷◌, ◌++◌, map}
 use native.Mathlib.Omega.{arith}
 use lib.Dec.{eqb}
 use lib.ListN.{length}
 use borrow.Author.Tests.{eqb-true, eqb-false}
+use Rattle.std.specs.Prelude.{Option, Some, None}
 use Rattle.bits.specs.Machine.{run, outs}
 use Rattle.monitor.specs.Monitor.{stopped}
 use Rattle.monitor.specs.History.{monitor_after}
@@ -21,9 +22,9 @@ use Rattle.units.specs.Indications.{Indication, line_receiver, line_indications}
 use Rattle.units.specs.Units.{unit_memory}
 use Rattle.reception.specs.Line.{Board, board_after, line_happenings, line_records}
 use Rattle.reception.proofs.Octets.{happenings-five}
-use Rattle.link.specs.declared.CommandCode.{CommandCode}
-use Rattle.link.specs.declared.CommandCode.TheVariants.{MonitorOff, StartFailure, StartAlignment, MustHandOver, CountOctets, Unknown}
-use Rattle.link.specs.Commands.{command_of, is_unknown, obeyed}
+use Rattle.link.specs.declared.Command.{Command}
+use Rattle.link.specs.declared.Command.TheVariants.{MonitorOff, StartFailure, StartAlignment, MustHandOver, CountOctets}
+use Rattle.link.specs.Commands.{command_of, is_unknown, obeyed, obeying}
 use Rattle.link.specs.Refusals.{first}
 use Rattle.link.specs.Held.{Held}
 use Rattle.input.specs.Receive.{ReceiveOutcome, received, receive_answer}
@@ -55,34 +56,25 @@ abbrev pub after : Link → Call → Link
 after l c = (answer l c).link
 
 -- ---- commands
-pub obeyed-same : (c : CommandCode) (l : Link) → ((obeyed c l).opened ≡ l.opened) × ((obeyed c l).settings ≡ l.settings) × ((front_of (obeyed c l)).receiver ≡ (front_of l).receiver)
+pub obeyed-same : (c : Option Command) (l : Link) → ((obeying c l).opened ≡ l.opened) × ((obeying c l).settings ≡ l.settings) × ((front_of (obeying c l)).receiver ≡ (front_of l).receiver)
 unfolding obeyed
-obeyed-same MonitorOff l = (refl, refl, refl)
-obeyed-same StartFailure l = (refl, refl, refl)
-obeyed-same StartAlignment l = (refl, refl, refl)
-obeyed-same MustHandOver l = (refl, refl, refl)
-obeyed-same CountOctets l = (refl, refl, refl)
-obeyed-same Unknown l = (refl, refl, refl)
+obeyed-same (Some MonitorOff) l = (refl, refl, refl)
+obeyed-same (Some StartFailure) l = (refl, refl, refl)
+obeyed-same (Some StartAlignment) l = (refl, refl, refl)
+obeyed-same (Some MustHandOver) l = (refl, refl, refl)
+obeyed-same (Some CountOctets) l = (refl, refl, refl)
+obeyed-same None l = (refl, refl, refl)
 
 -- a command does the same to two links that show the same
-pub obeyed-alike : (c : CommandCode) (l k : Link) → core_of l.units ≡ core_of k.units → l.supervision.monitor ≡ k.supervision.monitor
-    → (core_of (obeyed c l).units ≡ core_of (obeyed c k).units) × ((obeyed c l).supervision.monitor ≡ (obeyed c k).supervision.monitor)
+pub obeyed-alike : (c : Option Command) (l k : Link) → core_of l.units ≡ core_of k.units → l.supervision.monitor ≡ k.supervision.monitor
+    → (core_of (obeying c l).units ≡ core_of (obeying c k).units) × ((obeying c l).supervision.monitor ≡ (obeying c k).supervision.monitor)
 unfolding obeyed
-obeyed-alike MonitorOff l k u m = (u, ap stopped m)
-obeyed-alike StartFailure l k u m = (u, refl)
-obeyed-alike StartAlignment l k u m = (u, refl)
-obeyed-alike MustHandOver l k u m = (u, m)
-obeyed-alike CountOctets l k u m = (ap (λ (c : Core). record { counting = record { on = true; left = c.counting.left }; good = c.good }) u, m)
-obeyed-alike Unknown l k u m = (u, m)
-
-unknown-obeyed : (c : CommandCode) (l : Link) → is_unknown c ≡ true → obeyed c l ≡ l
-unfolding obeyed
-unknown-obeyed MonitorOff l e = absurd (false≢true e)
-unknown-obeyed StartFailure l e = absurd (false≢true e)
-unknown-obeyed StartAlignment l e = absurd (false≢true e)
-unknown-obeyed MustHandOver l e = absurd (false≢true e)
-unknown-obeyed CountOctets l e = absurd (false≢true e)
-unknown-obeyed Unknown l e = refl
+obeyed-alike (Some MonitorOff) l k u m = (u, ap stopped m)
+obeyed-alike (Some StartFailure) l k u m = (u, refl)
+obeyed-alike (Some StartAlignment) l k u m = (u, refl)
+obeyed-alike (Some MustHandOver) l k u m = (u, m)
+obeyed-alike (Some CountOctets) l k u m = (ap (λ (c : Core). record { counting = record { on = true; left = c.counting.left }; good = c.good }) u, m)
+obeyed-alike None l k u m = (u, m)
 
 module _ (s : Settings) (l : Link) (x : Course) (b : Bench s l x) where
   pub bench-next : (c : Call) → (after l c).opened ≡ l.opened → (after l c).settings ≡ l.settings → Bench s (after l c) (course_next x c)
@@ -169,18 +161,18 @@ module _ (s : Settings) (l : Link) (x : Course) (b : Bench s l x) where
       bench-next c (ap (λ (f : Front). f.opened) k.front) (ap (λ (f : Front). f.settings) k.front)
 
   -- ---- a command: one that is refused would do nothing
-  pub told-link : (n : ℕ) → after l (command n) ≡ obeyed (command_of n) l
+  pub told-link : (n : ℕ) → after l (command n) ≡ obeying (command_of n) l
   unfolding first
-  told-link n = go (is_unknown (command_of n)) refl
+  told-link n = go (command_of n) refl
     where
       number : first (faults l (command n)) ≡ cond (is_unknown (command_of n)) 11 0
       number = rw (b.holds.formed, b.opened)
 
-      go : (t : Bool) → is_unknown (command_of n) ≡ t → after l (command n) ≡ obeyed (command_of n) l
-      go false e = link-done l (command n) (number ∙ ap (λ (t : Bool). cond t 11 0) e)
-      go true e =
-          let eleven : first (faults l (command n)) ≡ 11 = number ∙ ap (λ (t : Bool). cond t 11 0) e in
-          link-refused l (command n) (λ z. omega arith) ∙ sym (unknown-obeyed (command_of n) l e)
+      go : (c : Option Command) → command_of n ≡ c → after l (command n) ≡ obeying (command_of n) l
+      go (Some c) e = link-done l (command n) (number ∙ ap (λ (c : Option Command). cond (is_unknown c) 11 0) e)
+      go None e =
+          let eleven : first (faults l (command n)) ≡ 11 = number ∙ ap (λ (c : Option Command). cond (is_unknown c) 11 0) e in
+          link-refused l (command n) (λ z. omega arith) ∙ sym (ap (λ (c : Option Command). obeying c l) e)
 
   pub told-next : (n : ℕ) → Bench s (after l (command n)) (course_next x (command n))
   told-next n =

@@ -1,4 +1,4 @@
--- D2.4: "with the overrun switch off both benches, otherwise set alike, show the same error counts and the same alarms for the same line and commands." The
+-- "With the overrun switch off both benches, otherwise set alike, show the same error counts and the same alarms for the same line and commands." The
 -- proofs are in proofs/Benches.antt.
 use Rattle.std.specs.Prelude.{ℕ, zero, suc, ◌≡◌, true, false, cond, List, [], ◌∷◌, ◌++◌, ltb, get_or, take, drop}
 use Rattle.bits.specs.Format.{basic}

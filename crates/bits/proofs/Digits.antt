@@ -6,11 +6,12 @@ use mathlib.Core.List.{List, [], ◌∷◌, ◌++◌}
 use native.Mathlib.Nat.{pow-suc, not-suc-le-zero, div-one, zero-add, suc-add}
 use native.Mathlib.Numerals.{add-one, one-add}
 use native.Mathlib.Omega.{arith}
-use lib.ListN.{length, take, length-append}
+use lib.ListN.{length, take}
 use lib.Seq.{take_all}
-use lib.Pow.{pow-lt, shr-shr, field, mod-mod-pow}
+use lib.Pow.{shr-shr, field, mod-mod-pow}
 use lib.Dec.{eqb}
 use borrow.Author.Tests.{eq-eqb, ne_eqb}
+use Rattle.std.proofs.lemmas.List.{length_push}
 use Rattle.bits.specs.Octets.{odd, bits_of, worth, octet_of}
 
 pub length-bits_of : (n x : ℕ) → length (bits_of n x) ≡ n
@@ -102,10 +103,4 @@ octet_of-snoc (x ∷ g) true = omega (arith, octet_of-snoc g true, pow-suc 2 (le
 octet_of-snoc (x ∷ g) false = omega (arith, octet_of-snoc g false)
 
 pub snoc-length : (g : List Bool) (b : Bool) → length (g ++ (b ∷ [])) ≡ length g + 1
-snoc-length g b = length-append g (b ∷ [])
-
--- the code's `1 << j` of an octet
-pub shift_one : (j : ℕ) → j < 8 → (1 * 2 ^ j) % 256 ≡ 2 ^ j
-shift_one j h =
-    let p : 2 ^ j < 2 ^ 8 = pow-lt h in
-    omega arith
+snoc-length = length_push

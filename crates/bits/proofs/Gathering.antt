@@ -9,8 +9,9 @@ use native.Mathlib.Omega.{arith}
 use lib.Bits.{bit_or, or_shifted_r}
 use lib.ListN.{length, get_or, take, drop, set, length-drop, drop_of_length-le}
 use lib.Seq.{take_all, take-append-le, drop-append-le}
+use Rattle.std.proofs.lemmas.Grind.{one_shifted}
 use Rattle.bits.specs.Octets.{line_bits, worth, octet_of, packed}
-use Rattle.bits.proofs.Digits.{octet_of-snoc, octet_of-lt, snoc-length, shift_one}
+use Rattle.bits.proofs.Digits.{octet_of-snoc, octet_of-lt, snoc-length}
 use Rattle.bits.proofs.Packing.{held-length}
 
 -- a short run with one more bit: its first octet, and what is after it
@@ -81,7 +82,8 @@ module _ (n k : ℕ) (area : List ℕ) (h : k < 8 * n) (e : area ≡ packed n (t
       let l : length g ≡ k = held-length n k area (omega arith) e in
       let q : set area (k / 8) (bit_or (get_or area (k / 8) 0) (2 ^ (k % 8))) ≡ set (packed n g) (length g / 8) (bit_or (get_or (packed n g) (length g / 8) 0) (2 ^ (length g % 8))) =
       ap₂ (λ (x : List ℕ) (i : ℕ). set x (i / 8) (bit_or (get_or x (i / 8) 0) (2 ^ (i % 8)))) e (sym l) in
-      rw (shift_one (k % 8) (omega arith)) (q ∙ sym (one_in n g (omega arith)))
+      -- the code's `1 << k % 8` of an octet
+      rw (one_shifted (k % 8) 255 refl (omega arith)).0 (q ∙ sym (one_in n g (omega arith)))
 
   pub put-zero : area ≡ packed n (take k (line_bits area) ++ (false ∷ []))
   put-zero = e ∙ sym (zero_in n (take k (line_bits area)))

@@ -9,7 +9,7 @@ pub record Format : Type 0 where
   pub slot : ℕ
   pub output : ℕ
 
--- the format of document 01
+-- the format of the scope
 abbrev pub basic : Format
 basic = record { sequence = 2; indicator = 1; slot = 280; output = 336 }
 

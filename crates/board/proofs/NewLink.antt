@@ -1,7 +1,7 @@
 -- A closed link is malformed exactly if it isn't the new link.
 use Prim.Native.Nat.{ℕ, zero, suc}
 use mathlib.Core.Path.{◌≡◌, refl, sym, ap, ◌∙◌}
-use mathlib.Core.Bool.{true, false, not, false≢true}
+use mathlib.Core.Bool.{Bool, beq, true, false, not, false≢true}
 use mathlib.Core.List.{List, [], ◌∷◌}
 use lib.Dec.{eqb}
 use lib.ListN.{length, get_or, replicate}
@@ -9,7 +9,21 @@ use borrow.Author.Tests.{eqb-true, not-true, not-false}
 use Rattle.memory.specs.Lent.{zeros}
 use Rattle.monitor.specs.declared.Mode.{Mode}
 use Rattle.monitor.specs.declared.Mode.TheVariants.{Off, Failure, Alignment, Idle}
+use Rattle.board.specs.declared.Settings.{Settings}
+use Rattle.board.specs.declared.Gathering.{Gathering}
+use Rattle.board.specs.declared.UnitState.{UnitState}
+use Rattle.board.specs.declared.Supervision.{Supervision}
+use Rattle.board.specs.declared.Transmitter.{Transmitter}
 use Rattle.board.specs.declared.Link.{Link}
+use Rattle.filter.specs.contracts.MemoryPartialEq.TheImpl as memory
+use Rattle.board.specs.contracts.SettingsPartialEq.TheImpl as settings
+use Rattle.board.specs.contracts.GatheringPartialEq.TheImpl as line
+use Rattle.board.specs.contracts.CountingPartialEq.TheImpl as counting
+use Rattle.board.specs.contracts.UnitStatePartialEq.TheImpl as units
+use Rattle.board.specs.contracts.SupervisionPartialEq.TheImpl as supervision
+use Rattle.board.specs.contracts.TransmitterPartialEq.TheImpl as transmitter
+use Rattle.board.specs.contracts.LinkPartialEq.TheImpl as link
+use Rattle.std.proofs.Common.{rules}
 use Rattle.board.specs.Link.{new_link, clear_area}
 use Rattle.board.specs.Malformed.{is_off, numbers, is_new}
 use Rattle.board.specs.Promises.{Sized, NewExactly}
@@ -95,3 +109,71 @@ new-exactly l z o = (
   λ e. only-new l z o (not-false _ (sym (when-closed l o) ∙ e)),
   λ e. when-closed l o ∙ ap (λ (x : Link). not (is_new x)) e ∙ ap not new-is-new,
 )
+
+-- ---- `==` of links
+settings-equal : (a b : Settings) → settings.ghosts.eq a b ≡ true → a ≡ b
+settings-equal a b e =
+    let p1 = both (eqb a.k b.k) _ e in
+    let p2 = both (eqb a.m b.m) _ p1.1 in
+    let p3 = both (eqb a.n b.n) _ p2.1 in
+    let k : a.k ≡ b.k = search (rules, p1.0) in
+    let m : a.m ≡ b.m = search (rules, p2.0) in
+    let n : a.n ≡ b.n = search (rules, p3.0) in
+    let t : a.t ≡ b.t = search (rules, p3.1) in
+    let d : a.d ≡ b.d = search (rules, p3.1) in
+    let q : a.a ≡ b.a = search (rules, p3.1) in
+    let mask : a.mask ≡ b.mask = search (rules, p3.1) in
+    let filter : a.filter ≡ b.filter = search (rules, p3.1) in
+    let itu : a.itu ≡ b.itu = search (rules, p3.1) in
+    let orn : a.orn ≡ b.orn = search (rules, p3.1) in
+    λ i. record { k = k i; m = m i; n = n i; t = t i; d = d i; a = q i; mask = mask i; filter = filter i; itu = itu i; orn = orn i }
+
+line-equal : (a b : Gathering) → line.ghosts.eq a b ≡ true → a ≡ b
+line-equal a b e = search rules
+
+units-equal : (a b : UnitState) → units.ghosts.eq a b ≡ true → a ≡ b
+units-equal a b e =
+    let p1 = both (counting.ghosts.eq a.counting b.counting) _ e in
+    let p2 = both (memory.ghosts.eq a.memory b.memory) _ p1.1 in
+    let p3 = both (eqb a.slots.next b.slots.next) _ p2.1 in
+    let q1 : a.counting ≡ b.counting = search (rules, p1.0) in
+    let q2 : a.memory ≡ b.memory = search (rules, p2.0) in
+    let q3 : a.slots ≡ b.slots = search (rules, p3.0) in
+    let q4 : a.counts ≡ b.counts = search (rules, p3.1) in
+    λ i. record { counting = q1 i; memory = q2 i; slots = q3 i; counts = q4 i }
+
+supervision-equal : (a b : Supervision) → supervision.ghosts.eq a b ≡ true → a ≡ b
+supervision-equal a b e = search rules
+
+transmitter-equal : (a b : Transmitter) → transmitter.ghosts.eq a b ≡ true → a ≡ b
+transmitter-equal a b e = search rules
+
+equal : (l m : Link) → link.ghosts.eq l m ≡ true → l ≡ m
+equal l m e =
+    let p1 = both (beq l.opened m.opened) _ e in
+    let p2 = both (settings.ghosts.eq l.settings m.settings) _ p1.1 in
+    let p3 = both (line.ghosts.eq l.line m.line) _ p2.1 in
+    let p4 = both (units.ghosts.eq l.units m.units) _ p3.1 in
+    let p5 = both (supervision.ghosts.eq l.supervision m.supervision) _ p4.1 in
+    let q1 : l.opened ≡ m.opened = search (rules, p1.0) in
+    let q2 = settings-equal _ _ p2.0 in
+    let q3 = line-equal _ _ p3.0 in
+    let q4 = units-equal _ _ p4.0 in
+    let q5 = supervision-equal _ _ p5.0 in
+    let q6 = transmitter-equal _ _ p5.1 in
+    λ i. record { opened = q1 i; settings = q2 i; line = q3 i; units = q4 i; supervision = q5 i; transmitter = q6 i }
+
+new-equal : link.ghosts.eq new_link new_link ≡ true
+unfolding clear_area
+new-equal = refl
+
+pub new-equally : (l n : Link) → Sized l → l.opened ≡ false → n ≡ new_link → link.ghosts.eq l n ≡ is_new l
+new-equally l n z o e =
+    let to : link.ghosts.eq l n ≡ true → is_new l ≡ true = λ (q : link.ghosts.eq l n ≡ true). ap is_new (equal l n q ∙ e) ∙ new-is-new in
+    let from : is_new l ≡ true → link.ghosts.eq l n ≡ true = λ (q : is_new l ≡ true). rw (only-new l z o q, e) new-equal in
+    same (link.ghosts.eq l n) (is_new l) to from
+  where
+    same : (a b : Bool) → (a ≡ true → b ≡ true) → (b ≡ true → a ≡ true) → a ≡ b
+    same false false f g = refl
+    same false true f g = g refl
+    same true b f g = sym (f refl)

@@ -1,4 +1,4 @@
--- When a link is malformed, in document 01's words and order.
+-- When a link is malformed, in the scope's words and order.
 use Rattle.std.specs.Prelude.{ℕ, ◌+◌, ◌*◌, Bool, true, false, not, ◌&&◌, ◌||◌, cond, List, [], ◌∷◌, eqb, leb, ltb, drop}
 use Rattle.bits.specs.Octets.{line_bits}
 use Rattle.bits.specs.Format.{Format, basic, least_longest, most_longest}

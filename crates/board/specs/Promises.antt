@@ -23,7 +23,7 @@ NewExactly = (l : Link) → Sized l → l.opened ≡ false → (malformed l ≡ 
 abbrev pub RangesExactly : Type 0
 RangesExactly = (s : Settings) → (in_range basic s ≡ true) ↔ SettingsInRange s
 
--- An open link is not malformed exactly if it obeys all that document 01 asks of it.
+-- An open link is not malformed exactly if it obeys all that the scope asks of it.
 abbrev pub WellFormedExactly : Type 0
 WellFormedExactly = (l : Link) → l.opened ≡ true → (malformed l ≡ false) ↔ WellFormed l
 

@@ -11,11 +11,11 @@ pub mod limits;
 pub mod rows;
 
 ghost use Rattle.std.specs.Prelude.{◌≡◌};
-ghost use Rattle.board.specs.Link.{new_link, new_line, clear_area, new_settings, new_units, new_supervision, new_transmitter};
+ghost use Rattle.board.specs.Link.{new_link, new_line, new_settings, new_units, new_supervision, new_transmitter};
 
 // What a booking says: K slots, the longest unit M, N, T, D and A, the mask, and the three switches.
 #[repr(C)]
-#[derive(Clone, Copy)]
+#[derive(Clone, Copy, PartialEq, Eq)]
 pub struct Settings {
     pub k: u16,
     pub m: u16,
@@ -31,15 +31,15 @@ pub struct Settings {
 
 // The receiver of line bits: its small state and the gathering area.
 #[repr(C)]
-#[derive(Clone, Copy)]
+#[derive(Clone, Copy, PartialEq, Eq)]
 pub struct Gathering {
     pub state: Line,
     pub area: [u8; 279],
 }
 
-// Octet counting: whether it is on, and N's counter, which runs at all times.
+// Octet counting: whether it is on, and N's counter, which runs at all times and so is no Option.
 #[repr(C)]
-#[derive(Clone, Copy)]
+#[derive(Clone, Copy, PartialEq, Eq)]
 pub struct Counting {
     pub on: bool,
     pub left: u16,
@@ -47,14 +47,14 @@ pub struct Counting {
 
 // The slot that the next unit goes to.
 #[repr(C)]
-#[derive(Clone, Copy)]
+#[derive(Clone, Copy, PartialEq, Eq)]
 pub struct Slots {
     pub next: u16,
 }
 
 // Good units, and of those the units handed over, dropped and lost; each goes round to 0 after 65,535.
 #[repr(C)]
-#[derive(Clone, Copy)]
+#[derive(Clone, Copy, PartialEq, Eq)]
 pub struct Counts {
     pub good: u16,
     pub over: u16,
@@ -63,8 +63,9 @@ pub struct Counts {
 }
 
 // The sender between calls: whether a flag has gone, the waiting bits, and the last content's first two octets, if content was sent.
+// `sent` and `last` are no Option, since the C link (HostTransmitter) shows both, and what it shows comes back.
 #[repr(C)]
-#[derive(Clone, Copy)]
+#[derive(Clone, Copy, PartialEq, Eq)]
 pub struct Transmitter {
     pub flagged: bool,
     pub count: u8,
@@ -75,7 +76,7 @@ pub struct Transmitter {
 
 // What deals with units: octet counting, the filter's memory, the next slot, the counts.
 #[repr(C)]
-#[derive(Clone, Copy)]
+#[derive(Clone, Copy, PartialEq, Eq)]
 pub struct UnitState {
     pub counting: Counting,
     pub memory: Memory,
@@ -84,13 +85,13 @@ pub struct UnitState {
 }
 
 // The monitor and the event bits.
-#[derive(Clone, Copy)]
+#[derive(Clone, Copy, PartialEq, Eq)]
 pub struct Supervision {
     pub monitor: Monitor,
     pub events: u16,
 }
 
-#[derive(Clone, Copy)]
+#[derive(Clone, Copy, PartialEq, Eq)]
 pub struct Link {
     pub opened: bool,
     pub settings: Settings,
@@ -154,41 +155,29 @@ impl Link {
     pub fn new() -> Self
         ensures { result ≡ new_link }
     {
-        let settings = no_settings();
-        let line = new_line();
-        let units = new_units();
-        let supervision = new_supervision();
-        let transmitter = new_transmitter();
         Self {
             opened: false,
-            settings: settings,
-            line: line,
-            units: units,
-            supervision: supervision,
-            transmitter: transmitter,
+            settings: no_settings(),
+            line: new_line(),
+            units: new_units(),
+            supervision: new_supervision(),
+            transmitter: new_transmitter(),
         }
     }
 }
 
-// A gathering area with no bits.
-fn clear_area() -> [u8; 279]
-    ensures { result ≡ clear_area }
-{
-    [0; 279]
-}
-
-// A receiver that has read seven ones and hunts.
+// A receiver that has read seven ones and hunts, with no bits in its gathering area.
+#[tactic(auto, unfolding(crate::specs::Link::clear_area))]
 fn new_line() -> Gathering
     ensures { result ≡ new_line }
 {
-    let area = clear_area();
     Gathering {
         state: Line {
             run: 7,
             hunting: true,
             bits: 0,
         },
-        area: area,
+        area: [0; 279],
     }
 }
 
@@ -196,10 +185,9 @@ fn new_line() -> Gathering
 fn new_units() -> UnitState
     ensures { result ≡ new_units }
 {
-    let memory = Memory::empty();
     UnitState {
         counting: Counting { on: false, left: 0 },
-        memory: memory,
+        memory: Memory::empty(),
         slots: Slots { next: 0 },
         counts: Counts {
             good: 0,
@@ -214,9 +202,8 @@ fn new_units() -> UnitState
 fn new_supervision() -> Supervision
     ensures { result ≡ new_supervision }
 {
-    let monitor = Monitor::off();
     Supervision {
-        monitor: monitor,
+        monitor: Monitor::off(),
         events: 0,
     }
 }

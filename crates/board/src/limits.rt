@@ -8,7 +8,7 @@ use crate::Link;
 use memory::Status;
 
 #[repr(C)]
-#[derive(Clone, Copy)]
+#[derive(Clone, Copy, PartialEq, Eq)]
 pub struct Range {
     pub least: usize,
     pub most: usize,
@@ -17,7 +17,7 @@ pub struct Range {
 // Octets of a slot; slots; longest unit M; N, T, D and A; line octets of a receive; octets of a record, and of the records for one line
 // octet; octets of an output area; octets of content.
 #[repr(C)]
-#[derive(Clone, Copy)]
+#[derive(Clone, Copy, PartialEq, Eq)]
 pub struct Sizes {
     pub slot: usize,
     pub slots: Range,
@@ -31,6 +31,7 @@ pub struct Sizes {
 }
 
 // The limits by name, which are those of the definitions.
+#[tactic(auto, unfolding(crate::specs::Sizes::sizes_of))]
 pub fn link_sizes() -> Sizes
     ensures { result ≡ sizes_of basic }
 {
@@ -38,15 +39,15 @@ pub fn link_sizes() -> Sizes
         slot: Link::SLOT,
         slots: Range {
             least: 1,
-            most: Link::MOST_SLOTS as usize,
+            most: usize::from(Link::MOST_SLOTS),
         },
         longest: Range {
-            least: Link::LEAST_LONGEST as usize,
-            most: Link::MOST_LONGEST as usize,
+            least: usize::from(Link::LEAST_LONGEST),
+            most: usize::from(Link::MOST_LONGEST),
         },
         counts: Range {
             least: 1,
-            most: Link::MOST_COUNT as usize,
+            most: usize::from(Link::MOST_COUNT),
         },
         line: Link::MOST_LINE,
         record: Link::RECORD,
@@ -59,7 +60,8 @@ pub fn link_sizes() -> Sizes
     }
 }
 
-// The status words by name, which are those of the definitions.
+// The status words by name, which are those of the definitions. A function here and no From beside Status: it holds the constants of Link
+// to the definition, as the edit empty_is_good asks.
 pub fn status_word(status: Status) -> u16
     ensures { result ≡ status_word status }
 {

@@ -1,9 +1,8 @@
 -- A dropped unit had its like handed over: the filter's law, oldest first, at the inputs of a booking.
 use Prim.Native.Nat.{ℕ, zero, suc}
 use mathlib.Core.Path.{◌≡◌, refl, sym, ap, subst, ◌∙◌}
-use mathlib.Core.Bool.{Bool, true, false, ◌&&◌, ◌||◌, cond, false≢true}
+use mathlib.Core.Bool.{Bool, true, false, ◌||◌, cond}
 use mathlib.Core.List.{List, [], ◌∷◌, ◌++◌, append_assoc, reverse, reverse-cons, reverse-append, reverse-reverse}
-use native.Mathlib.Omega.{arith}
 use lib.ListN.{length, get_or}
 use Rattle.bits.specs.Format.{basic}
 use Rattle.bits.specs.Machine.{run, outs}
@@ -18,6 +17,8 @@ use Rattle.filter.specs.Predecessors.{HadItsLike as LikeBefore}
 use Rattle.filter.proofs.ByPredecessors.{dropped-exactly, dropped-had-its-like, like-handed-over}
 use Rattle.board.specs.declared.Settings.{Settings}
 use Rattle.calls.specs.Call.{link_after}
+use Rattle.std.proofs.Math.Bool.{or-false}
+use Rattle.std.proofs.lemmas.Bool.{and_parts, and_from}
 use Rattle.bookings.specs.Booking.{booking_after}
 use Rattle.bookings.specs.History.{units_of}
 use Rattle.bookings.specs.Dropped.{fate_after, Keeps, HadItsLike, DroppedInBooking}
@@ -31,15 +32,9 @@ Inputs = List FilterInput
 turned : (s : Settings) (hs : Inputs) (v : List ℕ) (free : Bool) → fate_after s (reverse (reverse hs)) v free ≡ fate_after s hs v free
 turned s hs v free = ap (λ (x : Inputs). fate_after s x v free) (reverse-reverse hs)
 
-dropped-lost : (f : Fate) → f ≡ Dropped → f ≡ Lost → ⊥
-dropped-lost f p q = let z : ◌≡◌ {A = ℕ} 0 1 = cc in omega arith
-
-over-lost : (b : Bool) (f : Fate) → f ≡ cond b Dropped HandedOver → f ≡ Lost → ⊥
-over-lost true f p q = dropped-lost f p q
-over-lost false f p q = let z : ◌≡◌ {A = ℕ} 0 1 = cc in omega arith
-
-over-dropped : (f : Fate) → f ≡ HandedOver → f ≡ Dropped → ⊥
-over-dropped f p q = let z : ◌≡◌ {A = ℕ} 0 1 = cc in omega arith
+not-lost : (b : Bool) (f : Fate) → f ≡ cond b Dropped HandedOver → f ≡ Lost → ⊥
+not-lost true f p q = cc
+not-lost false f p q = cc
 
 -- a unit whose slot is free, or that is dropped, is not lost
 free-fate : (on : Bool) (mask : List ℕ) (m : Memory) (v : List ℕ) → (settled basic on mask m v true).fate ≡ cond (drops basic on mask m v) Dropped HandedOver
@@ -52,15 +47,11 @@ free-fate on mask m v = go (drops basic on mask m v) refl
 
 never-lost : (s : Settings) (before : Inputs) (v : List ℕ) (free : Bool) → s.filter ≡ true → dropped_after basic s.mask (reverse before) v || free ≡ true
     → ¬ (fate_after s before v free ≡ Lost)
-never-lost s before v true on d lost = over-lost (drops basic s.filter s.mask (memory_after basic s.filter s.mask before) v) _ (free-fate s.filter s.mask (memory_after basic s.filter s.mask before) v) lost
+never-lost s before v true on d lost =
+    not-lost (drops basic s.filter s.mask (memory_after basic s.filter s.mask before) v) _ (free-fate s.filter s.mask (memory_after basic s.filter s.mask before) v) lost
 never-lost s before v false on d lost =
-    dropped-lost _
-    (sym (turned s before v false) ∙ (dropped-exactly basic s.filter s.mask (reverse before) v false).1 (both s.filter _ on d)) lost
-  where
-    both : (a b : Bool) → a ≡ true → b || false ≡ true → a && b ≡ true
-    both true true p q = refl
-    both true false p q = q
-    both false b p q = p
+    let both = and_from s.filter _ on (sym (or-false (dropped_after basic s.mask (reverse before) v)) ∙ d) in
+    not-lost true _ (sym (turned s before v false) ∙ (dropped-exactly basic s.filter s.mask (reverse before) v false).1 both) lost
 
 -- what an unbroken row says of one of its inputs
 unbroken-at : (mask : List ℕ) (older p : Inputs) (x : FilterInput) (q : Inputs) → Unbroken basic mask older (p ++ (x ∷ q))
@@ -105,10 +96,6 @@ module _ (s : Settings) (on : s.filter ≡ true) (before : Inputs) (u : List ℕ
   had-its-like : HadItsLike s before u
   had-its-like = record { older = older'; like = h.like; between = between'; split = split-turned; over = was-over; is-like = h.is-like; kept = keeps }
 
-left-true : (a b : Bool) → a && b ≡ true → (a ≡ true) × (b ≡ true)
-left-true true b e = (refl, e)
-left-true false b e = absurd (false≢true e)
-
 -- ---- the unit of a fate
 module _ (on : Bool) (mask : List ℕ) where
   abbrev remember : Memory → FilterInput → Memory
@@ -142,7 +129,7 @@ module _ (on : Bool) (mask : List ℕ) where
 
   unit-at : (xs : Inputs) (m : Memory) (k : ℕ) → get_or (outs remember fate m xs) k HandedOver ≡ Dropped → UnitAt m xs k
   unfolding units_of
-  unit-at [] m k e = absurd (over-dropped HandedOver refl e)
+  unit-at [] m k e = cc
   unit-at (good u free ∷ xs) m zero e = record { before = []; unit = u; free = free; after = xs; is = refl; place = refl; dropped = e }
   unit-at (good u free ∷ xs) m (suc k) e =
       behind m (good u free) xs k (suc k) (λ b p. ap suc p) (unit-at xs (remember m (good u free)) k e)
@@ -163,7 +150,7 @@ dropped-in-booking cs k e =
     let xs = (booking_after cs).inputs in
     let t = (histories cs).fated in
     let x = unit-at s.filter s.mask xs (empty_memory basic) k (ap (λ (fs : List Fate). get_or fs k HandedOver) (sym t) ∙ e) in
-    let d = left-true _ _ ((dropped-exactly basic s.filter s.mask (reverse x.before) x.unit x.free).0 (turned s x.before x.unit x.free ∙ x.dropped)) in
+    let d = and_parts _ _ ((dropped-exactly basic s.filter s.mask (reverse x.before) x.unit x.free).0 (turned s x.before x.unit x.free ∙ x.dropped)) in
     let h = had-its-like s d.0 x.before x.unit (dropped-had-its-like basic s.mask (reverse x.before) x.unit d.1) in
     record {
       before = x.before;

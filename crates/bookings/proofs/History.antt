@@ -2,10 +2,11 @@
 use Prim.Native.Nat.{ℕ, suc, ◌+◌}
 use mathlib.Core.Path.{◌≡◌, refl, sym, ap, ap₂, subst, ◌∙◌}
 use mathlib.Core.Bool.{Bool, true, false, cond}
-use mathlib.Core.List.{List, [], ◌∷◌, ◌++◌, map, append-nil}
+use mathlib.Core.List.{List, [], ◌∷◌, ◌++◌, map, map-append, append-nil}
 use native.Mathlib.Omega.{arith}
 use lib.Dec.{eqb}
 use lib.ListN.{length}
+use Rattle.std.specs.Prelude.{Option, Some, None}
 use Rattle.bits.specs.Octets.{line_bits}
 use Rattle.bits.specs.Format.{basic}
 use Rattle.bits.specs.Machine.{run, outs}
@@ -23,9 +24,9 @@ use Rattle.board.specs.declared.Link.{Link}
 use Rattle.board.specs.Link.{new_units}
 use Rattle.units.specs.Indications.{Indication, line_indications}
 use Rattle.units.specs.Units.{UnitMemory, unit_memory, counted, unit_memory_after, happenings}
-use Rattle.link.specs.declared.CommandCode.{CommandCode}
-use Rattle.link.specs.declared.CommandCode.TheVariants.{MonitorOff, StartFailure, StartAlignment, MustHandOver, CountOctets, Unknown}
-use Rattle.link.specs.Commands.{command_of, obeyed}
+use Rattle.link.specs.declared.Command.{Command}
+use Rattle.link.specs.declared.Command.TheVariants.{MonitorOff, StartFailure, StartAlignment, MustHandOver, CountOctets}
+use Rattle.link.specs.Commands.{command_of, obeyed, obeying}
 use Rattle.calls.specs.Call.{Call, opens, receive, command, clear, send, fill, read, reads_number, hand_back, wipe, link_after}
 use Rattle.promises.specs.History.{Front, new_front, link_of_front, number_of, front_done, brought}
 use Rattle.promises.proofs.Holding.{front_of, by_last}
@@ -34,7 +35,7 @@ use Rattle.readback.proofs.Handing.{found_in, found-line}
 use Rattle.bookings.specs.Booking.{Booking, new_booking, inputs_in, input_of_command, booking_done, Course, course_next, course_after, booking_after}
 use Rattle.bookings.specs.History.{good_units, units_of, KindOrGood, shown, kinds_shown, fates_told, is_over, is_dropped, is_lost, how_many, round, fates_after, History, Histories}
 use Rattle.bookings.proofs.Courses.{course-last, course-link}
-use Rattle.bookings.proofs.Inputs.{kinds-append, fates-append, units-append, good-append, map-append, count_all, Tells, tells_all}
+use Rattle.bookings.proofs.Inputs.{kinds-append, fates-append, units-append, good-append, count_all, Tells, tells_all}
 
 -- ---- what holds after each call
 pub record Told (f : Front) (b : Booking) : Type 0 where
@@ -109,14 +110,14 @@ module _ (f : Front) (b : Booking) (t : Told f b) (octets pool descriptors : Lis
 
 -- ---- a command
 module _ (f : Front) (b : Booking) (t : Told f b) where
-  abbrev front-told : CommandCode → Front
-  front-told c = record { opened = f.opened; settings = f.settings; receiver = f.receiver; units = (obeyed c (link_of_front f)).units }
+  abbrev front-told : Option Command → Front
+  front-told c = record { opened = f.opened; settings = f.settings; receiver = f.receiver; units = (obeying c (link_of_front f)).units }
 
   abbrev booking-told : List FilterInput → Booking
   booking-told xs = record { octets = b.octets; found = b.found; inputs = b.inputs ++ xs; happened = b.happened }
 
   -- one that the filter does not see
-  same_inputs : (c : CommandCode) → (obeyed c (link_of_front f)).units.memory ≡ f.units.memory → (obeyed c (link_of_front f)).units.counts ≡ f.units.counts
+  same_inputs : (c : Option Command) → (obeying c (link_of_front f)).units.memory ≡ f.units.memory → (obeying c (link_of_front f)).units.counts ≡ f.units.counts
       → Told (front-told c) (booking-told [])
   same_inputs c m n =
       subst (λ (xs : List FilterInput). Told (front-told c) (record { octets = b.octets; found = b.found; inputs = xs; happened = b.happened })) (sym (append-nil b.inputs))
@@ -130,14 +131,14 @@ module _ (f : Front) (b : Booking) (t : Told f b) where
         counts = n ∙ t.counts;
       })
 
-  told-command : (c : CommandCode) → Told (front-told c) (booking-told (input_of_command c))
+  told-command : (c : Option Command) → Told (front-told c) (booking-told (input_of_command c))
   unfolding obeyed memory_after fates units_of
-  told-command MonitorOff = same_inputs MonitorOff refl refl
-  told-command StartFailure = same_inputs StartFailure refl refl
-  told-command StartAlignment = same_inputs StartAlignment refl refl
-  told-command CountOctets = same_inputs CountOctets refl refl
-  told-command Unknown = same_inputs Unknown refl refl
-  told-command MustHandOver =
+  told-command (Some MonitorOff) = same_inputs (Some MonitorOff) refl refl
+  told-command (Some StartFailure) = same_inputs (Some StartFailure) refl refl
+  told-command (Some StartAlignment) = same_inputs (Some StartAlignment) refl refl
+  told-command (Some CountOctets) = same_inputs (Some CountOctets) refl refl
+  told-command None = same_inputs None refl refl
+  told-command (Some MustHandOver) =
       record {
         receiver = t.receiver;
         found = t.found;

@@ -2,7 +2,7 @@
 use Prim.Native.Nat.{ℕ}
 use mathlib.Core.Path.{◌≡◌, refl, sym, ap, ap₂, ◌∙◌}
 use mathlib.Core.Bool.{Bool, true, false, ◌&&◌, cond}
-use mathlib.Core.List.{List, [], ◌∷◌, ◌++◌, map, append_assoc, append-nil}
+use mathlib.Core.List.{List, [], ◌∷◌, ◌++◌, map, map-append, append_assoc, append-nil}
 use lib.Dec.{eqb}
 use Rattle.bits.specs.Octets.{whole_octets}
 use Rattle.bits.specs.Format.{basic}
@@ -25,8 +25,9 @@ use Rattle.records.specs.declared.RecordKind.{RecordKind}
 use Rattle.records.specs.declared.RecordKind.TheVariants as kinds
 use Rattle.records.specs.declared.Happening.{Happening}
 use Rattle.units.specs.Indications.{Indication, found, octet_end}
-use Rattle.units.specs.Units.{UnitMemory, unit_memory, Effect, is_free, counted, by_fate, tick_of, good_unit, errored_unit, closed_unit, octet_effect, effect_of, next_unit_memory, happens, unit_memory_after, happenings}
+use Rattle.units.specs.Units.{UnitMemory, Effect, is_free, counted, by_fate, tick_of, good_unit, errored_unit, closed_unit, octet_effect, effect_of, next_unit_memory, happens, unit_memory_after, happenings}
 use Rattle.units.proofs.UnitStates.{each-cond}
+use Rattle.readback.proofs.Lists.{made-append}
 use Rattle.readback.proofs.Handing.{found_in}
 use Rattle.bookings.specs.Booking.{to_filter, input_of, inputs_in}
 use Rattle.bookings.specs.History.{if_good, good_units, units_of, KindOrGood, is_good, shown_as, shown, kind_shown, kinds_shown, fate_told, fates_told}
@@ -34,13 +35,11 @@ use Rattle.bookings.specs.History.{if_good, good_units, units_of, KindOrGood, is
 -- ---- lists in two parts
 pub kinds-append : (xs ys : List Happening) → kinds_shown (xs ++ ys) ≡ kinds_shown xs ++ kinds_shown ys
 unfolding kinds_shown
-kinds-append [] ys = refl
-kinds-append (x ∷ xs) ys = ap (λ (l : List KindOrGood). kind_shown x.kind ++ l) (kinds-append xs ys) ∙ sym (append_assoc (kind_shown x.kind) (kinds_shown xs) (kinds_shown ys))
+kinds-append = made-append (λ (h : Happening). kind_shown h.kind) kinds_shown refl (λ x xs. refl)
 
 pub fates-append : (xs ys : List Happening) → fates_told (xs ++ ys) ≡ fates_told xs ++ fates_told ys
 unfolding fates_told
-fates-append [] ys = refl
-fates-append (x ∷ xs) ys = ap (λ (l : List Fate). fate_told x.kind ++ l) (fates-append xs ys) ∙ sym (append_assoc (fate_told x.kind) (fates_told xs) (fates_told ys))
+fates-append = made-append (λ (h : Happening). fate_told h.kind) fates_told refl (λ x xs. refl)
 
 pub units-append : (xs ys : List FilterInput) → units_of (xs ++ ys) ≡ units_of xs ++ units_of ys
 unfolding units_of
@@ -55,10 +54,6 @@ good-append (closed u ∷ xs) ys =
     ap (λ (l : List (List ℕ)). if_good u (verdict_of basic u) ++ l) (good-append xs ys) ∙ sym (append_assoc (if_good u (verdict_of basic u)) (good_units xs) (good_units ys))
 good-append (abort ∷ xs) ys = good-append xs ys
 good-append (long ∷ xs) ys = good-append xs ys
-
-pub map-append : (f : Finding → KindOrGood) (xs ys : List Finding) → map f (xs ++ ys) ≡ map f xs ++ map f ys
-map-append f [] ys = refl
-map-append f (x ∷ xs) ys = ap (λ (l : List KindOrGood). f x ∷ l) (map-append f xs ys)
 
 -- ---- the findings of indications
 abbrev found_one : Indication → List Finding

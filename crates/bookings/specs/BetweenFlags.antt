@@ -1,4 +1,4 @@
--- D2.2, by reading the line: what a booking found between two flags of its line. The proofs are in proofs/BetweenFlags.antt.
+-- By reading the line: what a booking found between two flags of its line. The proofs are in proofs/BetweenFlags.antt.
 use Rattle.std.specs.Prelude.{◌≡◌, Bool, true, List, ◌++◌}
 use Rattle.bits.specs.Octets.{line_bits}
 use Rattle.framing.specs.Delimitation.{new_receiver, flagged, findings}

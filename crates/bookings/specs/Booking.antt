@@ -1,6 +1,6 @@
 -- What the calls of a booking have brought since its opening, from their arguments and the lent memory alone: nothing here looks at a count, at the
 -- filter's memory or at a record.
-use Rattle.std.specs.Prelude.{ℕ, Bool, cond, List, [], ◌∷◌, ◌++◌, eqb}
+use Rattle.std.specs.Prelude.{ℕ, Option, Some, None, Bool, cond, List, [], ◌∷◌, ◌++◌, eqb}
 use Rattle.bits.specs.Octets.{line_bits, whole_octets}
 use Rattle.bits.specs.Format.{basic}
 use Rattle.bits.specs.Machine.{run, outs}
@@ -13,8 +13,8 @@ use Rattle.board.specs.declared.Settings.{Settings}
 use Rattle.records.specs.declared.Happening.{Happening}
 use Rattle.units.specs.Indications.{Indication, found, octet_end, line_indications}
 use Rattle.units.specs.Units.{UnitMemory, unit_memory, is_free, next_unit_memory}
-use Rattle.link.specs.declared.CommandCode.{CommandCode}
-use Rattle.link.specs.declared.CommandCode.TheVariants.{MonitorOff, StartFailure, StartAlignment, MustHandOver, CountOctets, Unknown}
+use Rattle.link.specs.declared.Command.{Command}
+use Rattle.link.specs.declared.Command.TheVariants.{MonitorOff, StartFailure, StartAlignment, MustHandOver, CountOctets}
 use Rattle.link.specs.Commands.{command_of}
 use Rattle.calls.specs.Call.{Call, opens, receive, command, clear, send, fill, read, reads_number, hand_back, wipe}
 use Rattle.promises.specs.History.{Front, new_front, number_of, brought, front_next}
@@ -47,13 +47,13 @@ unfoldable pub inputs_in : Settings → UnitMemory → List Indication → List 
 inputs_in s = outs (next_unit_memory s) input_of
 
 -- "4 next unit must be handed over (empties the filter)"
-abbrev pub input_of_command : CommandCode → List FilterInput
-input_of_command MonitorOff = []
-input_of_command StartFailure = []
-input_of_command StartAlignment = []
-input_of_command MustHandOver = command-4 ∷ []
-input_of_command CountOctets = []
-input_of_command Unknown = []
+abbrev pub input_of_command : Option Command → List FilterInput
+input_of_command (Some MonitorOff) = []
+input_of_command (Some StartFailure) = []
+input_of_command (Some StartAlignment) = []
+input_of_command (Some MustHandOver) = command-4 ∷ []
+input_of_command (Some CountOctets) = []
+input_of_command None = []
 
 -- after a call that is answered 0
 abbrev pub booking_done : Front → Booking → Call → Booking

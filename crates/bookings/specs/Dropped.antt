@@ -1,4 +1,4 @@
--- D2.3: a dropped unit had its like handed over earlier in the same booking. The proofs are in proofs/Dropped.antt.
+-- A dropped unit had its like handed over earlier in the same booking. The proofs are in proofs/Dropped.antt.
 use Rattle.std.specs.Prelude.{ℕ, ◌≡◌, Bool, true, false, List, ◌∷◌, ◌++◌, length, get_or}
 use Rattle.bits.specs.Format.{basic}
 use Rattle.filter.specs.declared.Fate.{Fate}

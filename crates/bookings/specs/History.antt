@@ -1,4 +1,4 @@
--- D2.2: what a booking found and counted is given by the whole bit string since its opening, however that was cut into calls. The proofs are in
+-- What a booking found and counted is given by the whole bit string since its opening, however that was cut into calls. The proofs are in
 -- proofs/History.antt.
 use Rattle.std.specs.Prelude.{ℕ, suc, ◌+◌, ◌%◌, ◌^◌, ◌≡◌, Bool, true, false, cond, List, [], ◌∷◌, ◌++◌, map, length}
 use Rattle.bits.specs.Octets.{line_bits, whole_octets}

@@ -1,4 +1,4 @@
--- D1.5: what any list of calls after a wipe answers and leaves is the same whatever calls, line and lent memory came before the wipe. The proofs are in
+-- What any list of calls after a wipe answers and leaves is the same whatever calls, line and lent memory came before the wipe. The proofs are in
 -- proofs/Isolation.antt.
 use Rattle.std.specs.Prelude.{ℕ, ◌≡◌, List, [], ◌∷◌, ◌++◌, length, get_or}
 use Rattle.bits.specs.Machine.{run, outs}

@@ -1,4 +1,4 @@
-// The calls of a host, in one place. Each takes the link by value and gives it back. Their contracts stand where they are defined.
+// The calls of a host, in one place. Each takes the link by value; what changes it gives it back. Their contracts stand where they are defined.
 
 #![tactic(auto)]
 
@@ -6,6 +6,7 @@ pub use board::limits::link_sizes;
 pub use board::rows::numbers;
 pub use board::{Link, Settings};
 pub use input::receive;
+pub use link::{Counted, Refusal};
 pub use link_booking::{open, wipe};
 pub use link_commands::clearing::clear;
 pub use link_commands::commands::command;

@@ -2,7 +2,7 @@
 
 #![tactic(auto)]
 
-use board::Link;
+use board::{Link, Settings};
 use host_link::answers::HostAnswer;
 use host_link::{HostLink, HostSettings};
 
@@ -19,11 +19,11 @@ ghost use Rattle.host_calls.specs.Answers.{host_answer};
 pub extern "C" fn pj_new_value() -> HostLink
     ensures { result ≡ to_host new_link }
 {
-    let l = Link::new();
-    host_link::to_host(l)
+    HostLink::from(Link::new())
 }
 
 // Opens a booking over memory that is wiped.
+#[tactic(auto, unfolding(host_link::specs::Crossing::given_back))]
 #[unsafe(no_mangle)]
 pub extern "C" fn pj_open_value(
     link: HostLink,
@@ -33,21 +33,20 @@ pub extern "C" fn pj_open_value(
 ) -> HostAnswer
     ensures { record { number = result.number; link = result.link; count = 0; part = []; lent = pool.new ∷ descriptors.new ∷ [] } ≡ host_answer link (opens (given_settings settings) pool.old descriptors.old) }
 {
-    let l = host_link::from_host(link);
-    let s = host_link::given_settings(settings);
-    let answer = calls::open(l, s, pool, descriptors);
-    let back = host_link::given_back(link, answer.number, answer.link);
-    HostAnswer {
-        link: back,
-        number: answer.number,
-    }
+    let opened = calls::open(
+        Link::from(link),
+        Settings::from(settings),
+        pool,
+        descriptors,
+    );
+    HostAnswer::new(link, opened)
 }
 
 // Zeroes all of both areas, whatever they are, and gives the new link. It is never refused, so it asks for no link.
+#[tactic(auto, unfolding(host_link::specs::Crossing::given_back))]
 #[unsafe(no_mangle)]
 pub extern "C" fn pj_wipe_value(octets: &mut [u8], words: &mut [u16]) -> HostLink
     ensures { record { number = 0; link = result; count = 0; part = []; lent = octets.new ∷ words.new ∷ [] } ≡ host_answer (to_host new_link) (wipe octets.old words.old) }
 {
-    let new = calls::wipe(octets, words);
-    host_link::to_host(new)
+    HostLink::from(calls::wipe(octets, words))
 }

@@ -1,12 +1,11 @@
 // The limits by name, with the status words and event bits, and the rows of settings.
 ghost use Rattle.std.specs.Prelude.{◌≡◌};
 ghost use Rattle.board.specs.Rows.{row_of};
-ghost use Rattle.capi_booking.specs.Limits.{status_words, event_words, host_limits};
+ghost use Rattle.capi_booking.specs.Limits.{host_limits};
 
-use board::events::Event;
+use board::Link;
 use board::limits::Sizes;
 use board::rows::Row;
-use memory::Status;
 
 // The four status words of a descriptor.
 #[repr(C)]
@@ -42,60 +41,30 @@ pub struct HostLimits {
     pub events: Events,
 }
 
-// The status words by name.
-fn status_words() -> Statuses
-    ensures { result ≡ status_words }
-{
-    let empty = board::limits::status_word(Status::Empty);
-    let good = board::limits::status_word(Status::Good);
-    let check_wrong = board::limits::status_word(Status::CheckWrong);
-    let not_whole = board::limits::status_word(Status::NotWhole);
-    Statuses {
-        empty: empty,
-        good: good,
-        check_wrong: check_wrong,
-        not_whole: not_whole,
-    }
-}
-
-// The event bits by name.
-fn event_words() -> Events
-    ensures { result ≡ event_words }
-{
-    let over = board::events::event_bit(Event::HandedOver);
-    let busy = board::events::event_bit(Event::Busy);
-    let suer = board::events::event_bit(Event::Suer);
-    let aerm = board::events::event_bit(Event::Aerm);
-    let octet = board::events::event_bit(Event::OctetTick);
-    let abort = board::events::event_bit(Event::Abort);
-    let long = board::events::event_bit(Event::Long);
-    let sent = board::events::event_bit(Event::Sent);
-    let fill = board::events::event_bit(Event::FillSent);
-    Events {
-        over: over,
-        busy: busy,
-        suer: suer,
-        aerm: aerm,
-        octet: octet,
-        abort: abort,
-        long: long,
-        sent: sent,
-        fill: fill,
-    }
-}
-
 // The limits of a link.
 #[unsafe(no_mangle)]
 pub extern "C" fn pj_limits_value() -> HostLimits
     ensures { result ≡ host_limits }
 {
-    let sizes = calls::link_sizes();
-    let statuses = status_words();
-    let events = event_words();
     HostLimits {
-        sizes: sizes,
-        statuses: statuses,
-        events: events,
+        sizes: calls::link_sizes(),
+        statuses: Statuses {
+            empty: Link::STATUS_EMPTY,
+            good: Link::STATUS_GOOD,
+            check_wrong: Link::STATUS_CHECK_WRONG,
+            not_whole: Link::STATUS_NOT_WHOLE,
+        },
+        events: Events {
+            over: Link::EVENT_OVER,
+            busy: Link::EVENT_BUSY,
+            suer: Link::EVENT_SUER,
+            aerm: Link::EVENT_AERM,
+            octet: Link::EVENT_OCTET,
+            abort: Link::EVENT_ABORT,
+            long: Link::EVENT_LONG,
+            sent: Link::EVENT_SENT,
+            fill: Link::EVENT_FILL,
+        },
     }
 }
 

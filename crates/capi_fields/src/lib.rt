@@ -4,11 +4,6 @@
 
 use host_link::HostLink;
 
-// An octet as a word.
-fn wide(octet: u8) -> u16 {
-    octet as u16
-}
-
 // The fields but the gathering area, in the order of the header; arrays octet by octet.
 fn fields(link: HostLink) -> [u16; 42] {
     let s = link.settings;
@@ -22,14 +17,14 @@ fn fields(link: HostLink) -> [u16; 42] {
         s.t,
         s.d,
         s.a,
-        wide(mask[0]),
-        wide(mask[1]),
-        wide(mask[2]),
-        wide(mask[3]),
-        wide(mask[4]),
-        wide(s.filter),
-        wide(s.itu),
-        wide(s.orn),
+        u16::from(mask[0]),
+        u16::from(mask[1]),
+        u16::from(mask[2]),
+        u16::from(mask[3]),
+        u16::from(mask[4]),
+        u16::from(s.filter),
+        u16::from(s.itu),
+        u16::from(s.orn),
         link.counts.good,
         link.counts.over,
         link.counts.dropped,
@@ -40,24 +35,24 @@ fn fields(link: HostLink) -> [u16; 42] {
         link.next,
         link.left,
         link.memory.length,
-        wide(octets[0]),
-        wide(octets[1]),
-        wide(octets[2]),
-        wide(octets[3]),
-        wide(octets[4]),
-        wide(link.memory.alike),
+        u16::from(octets[0]),
+        u16::from(octets[1]),
+        u16::from(octets[2]),
+        u16::from(octets[3]),
+        u16::from(octets[4]),
+        u16::from(link.memory.alike),
         link.line.bits,
-        wide(link.line.run),
-        wide(link.line.hunting),
-        wide(link.transmitter.flagged),
-        wide(link.transmitter.count),
-        wide(link.transmitter.wait),
-        wide(link.transmitter.sent),
-        wide(last[0]),
-        wide(last[1]),
-        wide(link.opened),
-        wide(link.counting),
-        wide(link.mode),
+        u16::from(link.line.run),
+        u16::from(link.line.hunting),
+        u16::from(link.transmitter.flagged),
+        u16::from(link.transmitter.count),
+        u16::from(link.transmitter.wait),
+        u16::from(link.transmitter.sent),
+        u16::from(last[0]),
+        u16::from(last[1]),
+        u16::from(link.opened),
+        u16::from(link.counting),
+        u16::from(link.mode),
     ]
 }
 
@@ -69,7 +64,7 @@ pub extern "C" fn pj_field(link: HostLink, number: usize) -> u16 {
     if number < 42 {
         values[number]
     } else if number < 321 {
-        wide(area[number - 42])
+        u16::from(area[number - 42])
     } else {
         0
     }

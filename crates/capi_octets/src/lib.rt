@@ -1,4 +1,4 @@
-// Exported for C: receive_octets, which takes line octets in by whole octets.
+// Exported for C: receive_octets, which takes line octets in by whole octets. An archive and a C name of its own, beside capi_receive.
 
 #![tactic(auto)]
 
@@ -6,10 +6,12 @@ ghost use Rattle.std.specs.Prelude.{◌≡◌, [], ◌∷◌};
 ghost use Rattle.calls.specs.Call.{receive};
 ghost use Rattle.host_calls.specs.Answers.{host_answer};
 
+use board::Link;
 use host_link::HostLink;
 use host_link::answers::HostCounted;
 
 // Takes line octets in by whole octets: the answer of receive on every input.
+#[tactic(auto, unfolding(host_link::specs::Crossing::given_back))]
 #[unsafe(no_mangle)]
 pub extern "C" fn pj_receive_octets_value(
     link: HostLink,
@@ -20,12 +22,6 @@ pub extern "C" fn pj_receive_octets_value(
 ) -> HostCounted
     ensures { record { number = result.number; link = result.link; count = result.count; part = []; lent = octets.now ∷ pool.new ∷ descriptors.new ∷ records.new ∷ [] } ≡ host_answer link (receive octets.now pool.old descriptors.old records.old) }
 {
-    let l = host_link::from_host(link);
-    let answer = calls::receive_octets(l, octets, pool, descriptors, records);
-    let back = host_link::given_back(link, answer.number, answer.link);
-    HostCounted {
-        count: answer.count,
-        link: back,
-        number: answer.number,
-    }
+    let received = calls::receive_octets(Link::from(link), octets, pool, descriptors, records);
+    HostCounted::new(link, received)
 }

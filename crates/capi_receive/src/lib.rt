@@ -1,4 +1,4 @@
-// Exported for C: receive, which takes line octets in bit by bit. An archive of its own keeps each engine as fast as it is alone.
+// Exported for C: receive, which takes line octets in bit by bit. An archive and a C name of its own keep each engine as fast as it is alone.
 
 #![tactic(auto)]
 
@@ -6,10 +6,12 @@ ghost use Rattle.std.specs.Prelude.{◌≡◌, [], ◌∷◌};
 ghost use Rattle.calls.specs.Call.{receive};
 ghost use Rattle.host_calls.specs.Answers.{host_answer};
 
+use board::Link;
 use host_link::HostLink;
 use host_link::answers::HostCounted;
 
 // Takes line octets in, fills slots, and writes a record for each thing that happened.
+#[tactic(auto, unfolding(host_link::specs::Crossing::given_back))]
 #[unsafe(no_mangle)]
 pub extern "C" fn pj_receive_value(
     link: HostLink,
@@ -20,12 +22,6 @@ pub extern "C" fn pj_receive_value(
 ) -> HostCounted
     ensures { record { number = result.number; link = result.link; count = result.count; part = []; lent = octets.now ∷ pool.new ∷ descriptors.new ∷ records.new ∷ [] } ≡ host_answer link (receive octets.now pool.old descriptors.old records.old) }
 {
-    let l = host_link::from_host(link);
-    let answer = calls::receive(l, octets, pool, descriptors, records);
-    let back = host_link::given_back(link, answer.number, answer.link);
-    HostCounted {
-        count: answer.count,
-        link: back,
-        number: answer.number,
-    }
+    let received = calls::receive(Link::from(link), octets, pool, descriptors, records);
+    HostCounted::new(link, received)
 }

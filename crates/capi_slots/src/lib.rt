@@ -10,12 +10,12 @@ use board::Link;
 use host_link::HostLink;
 use host_link::answers::{HostAnswer, HostPart};
 
-// Where in the pool a slot begins; 0 where the call is refused.
+// Where in the pool a slot begins; 0 where the call is refused. By its number, as the C interface and the definition offset_of have it.
 fn offset_of(number: u8, slot: u16) -> usize
     ensures { result ≡ offset_of number slot }
 {
     if number == 0 {
-        Link::SLOT * (slot as usize)
+        Link::SLOT * usize::from(slot)
     } else {
         0
     }
@@ -31,8 +31,7 @@ pub extern "C" fn pj_read_number_value(
 ) -> u8
     ensures { result ≡ (host_answer link (reads_number pool.now descriptors.now slot)).number }
 {
-    let l = host_link::from_host(link);
-    calls::read_number(l, pool, descriptors, slot)
+    calls::read_number(Link::from(link), pool, descriptors, slot)
 }
 
 // The unit in a slot, as the place and the length of a part of the pool; both 0 where the call is refused.
@@ -45,17 +44,18 @@ pub extern "C" fn pj_read_value(
 ) -> HostPart
     ensures { result ≡ host_part link pool.now descriptors.now slot }
 {
-    let l = host_link::from_host(link);
+    let l = Link::from(link);
     let number = calls::read_number(l, pool, descriptors, slot);
     let part = calls::read(l, pool, descriptors, slot);
     HostPart {
         offset: offset_of(number, slot),
         length: part.len(),
-        number: number,
+        number,
     }
 }
 
 // Gives a slot back, zeroed and marked empty.
+#[tactic(auto, unfolding(host_link::specs::Crossing::given_back))]
 #[unsafe(no_mangle)]
 pub extern "C" fn pj_hand_back_value(
     link: HostLink,
@@ -65,11 +65,6 @@ pub extern "C" fn pj_hand_back_value(
 ) -> HostAnswer
     ensures { record { number = result.number; link = result.link; count = 0; part = []; lent = pool.new ∷ descriptors.new ∷ [] } ≡ host_answer link (hand_back pool.old descriptors.old slot) }
 {
-    let l = host_link::from_host(link);
-    let answer = calls::hand_back(l, pool, descriptors, slot);
-    let back = host_link::given_back(link, answer.number, answer.link);
-    HostAnswer {
-        link: back,
-        number: answer.number,
-    }
+    let handed = calls::hand_back(Link::from(link), pool, descriptors, slot);
+    HostAnswer::new(link, handed)
 }

@@ -9,14 +9,13 @@ use Rattle.board.specs.declared.Settings.{Settings}
 use Rattle.board.specs.declared.Link.{Link}
 use Rattle.board.specs.Malformed.{in_range, malformed}
 use Rattle.board.specs.Rows.{row_of, table, row_settings}
-use Rattle.link.specs.declared.Answer.{Answer}
-use Rattle.link.specs.declared.CommandCode.TheVariants.{StartFailure}
+use Rattle.link.specs.Answer.{Answer}
+use Rattle.link.specs.declared.Command.TheVariants.{StartFailure}
 use Rattle.link.specs.Commands.{command_of, obeyed}
 use Rattle.link.specs.Refusals.{first, command_number}
 use Rattle.link.specs.Calls.{opened_link, command_answer}
 use Rattle.link.specs.Held.{Held}
 use Rattle.link.proofs.Answers.{done}
-use Rattle.link.proofs.Kept.{opened}
 use Rattle.calls.specs.Call.{Call, command, link_after}
 use Rattle.readback.specs.Using.{InUse}
 use Rattle.readback.proofs.Using.{lent, taken}

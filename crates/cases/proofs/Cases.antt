@@ -23,10 +23,11 @@ use Rattle.input.specs.Receive.{ReceiveOutcome, board_of, received}
 use Rattle.input.proofs.Cutting.{no-octets}
 use Rattle.sending.specs.Stuffing.{flag}
 use Rattle.output.specs.Output.{first_flag}
-use Rattle.transmission.specs.Transmission.{Sending, send, answer, waiting_bits, Accepted, more}
+use Rattle.transmission.specs.Transmission.{Sending, send, answer, waiting_bits}
 use Rattle.transmission.proofs.Cases.{p14}
 use Rattle.readback.specs.Using.{Fitting, none as none-fitting, more as more-fitting}
 use Rattle.readback.proofs.Sends.{sends-in-use}
+use Rattle.readback.proofs.Filling.{first-answered}
 use Rattle.cases.specs.Cases.{board, Cases}
 use Rattle.cases.proofs.Boards.{started, held_of, sixteen, one, board-is, board-used, line_taken, line-received, line-records}
 use Rattle.cases.proofs.Findings.{row-4, row-5, row-39, row-40, row-2224, row-2225}
@@ -55,9 +56,6 @@ two-octets = ap (λ (l : Link). length l.transmitter.last) (board-is 1 false (on
 before : (bits : List Bool) → waiting_bits (board 1 false) ++ (first_flag (board 1 false).transmitter.flagged ++ bits) ≡ flag ++ bits
 unfolding obeyed bits_of
 before bits = ap (λ (l : Link). waiting_bits l ++ (first_flag l.transmitter.flagged ++ bits)) (board-is 1 false (one false))
-
-first-answered : {l : Link} {s : Sending} {ss : List Sending} → Accepted l (s ∷ ss) → (answer l s).number ≡ 0
-first-answered (more z rest) = z
 
 sent : (s : Sending) → Fitting s → (answer (board 1 false) s).number ≡ 0
 sent s fits =

@@ -3,7 +3,6 @@ use Prim.Native.Nat.{ℕ}
 use mathlib.Core.Path.{◌≡◌, refl, sym, ap, ap₂, subst, ◌∙◌}
 use mathlib.Core.Bool.{Bool, true, false, and-false}
 use mathlib.Core.List.{List, [], ◌∷◌, ◌++◌, map}
-use native.Mathlib.Omega.{arith}
 use lib.ListN.{length}
 use lib.Seq.{drop_at}
 use lib.Dec.{eqb}
@@ -120,12 +119,12 @@ module _ (s : Settings) (itu : s.itu ≡ false) (orn : s.orn ≡ false) where
       → map kind_of (happenings s o ms) ≡ ks
   unfolding happenings effect_of octet_effect
   kinds-over [] o [] ks nothing off e = refl
-  kinds-over [] o (f ∷ fs) ks k off e = absurd (omega (arith, ap length e))
+  kinds-over [] o (f ∷ fs) ks k off e = cc
   kinds-over (octet_end ∷ ms) o fs ks k off e =
       let quiet : ticks (eqb o.units.counting.left 1) o.units.counting.on (tick_of o.units.counts.good) ≡ [] = rw (off, and-false) in
       ap (λ (hs : List Happening). map kind_of (hs ++ happenings s (octet_effect s o).unit_memory ms)) quiet
       ∙ kinds-over ms (octet_effect s o).unit_memory fs ks k off e
-  kinds-over (found g ∷ ms) o [] ks k off e = absurd (omega (arith, ap length e))
+  kinds-over (found g ∷ ms) o [] ks k off e = cc
   kinds-over (found g ∷ ms) o (f ∷ fs) [] k off e = elim k [ ]
   kinds-over (found g ∷ ms) o (f ∷ fs) (kind ∷ ks) (one_more b k) off e =
       let g-is : f ≡ g = cc in

@@ -1,4 +1,4 @@
--- "Proved cases" of document 01, P1 to P14, as one table. The cases that speak of a line go through the calls, from the new closed link on, with whatever
+-- The scope's "Proved cases", P1 to P14, as one table. The cases that speak of a line go through the calls, from the new closed link on, with whatever
 -- stands in the lent memory; those that speak of events are over the monitor's events. The proof is in proofs/Cases.antt.
 use Rattle.std.specs.Prelude.{ℕ, zero, suc, ◌*◌, ◌≤◌, ◌≡◌, Bool, true, false, List, [], ◌∷◌, ◌++◌, length, replicate, get_or, drop, take}
 use Rattle.bits.specs.Format.{basic}

@@ -1,3 +1,3 @@
--- The proved cases of document 01.
+-- The scope's proved cases.
 pub mod Cases
 pub mod Useless

@@ -1,4 +1,4 @@
--- "Useless programs and what stops them": each of those that document 01 names breaks a promise, at a small example of it. The proofs are in proofs/Useless.antt.
+-- "Useless programs and what stops them": each of those that the scope names breaks a promise, at a small example of it. The proofs are in proofs/Useless.antt.
 use Rattle.std.specs.Prelude.{ℕ, suc, ◌≡◌, false, not, ◌||◌, cond, List, [], ◌∷◌, ◌++◌, eqb, length, replicate, get_or, take}
 use Rattle.bits.specs.Machine.{run}
 use Rattle.board.specs.declared.Settings.{Settings}
@@ -30,7 +30,7 @@ two = record { k = 1; m = 278; n = 16; t = 2; d = 256; a = 1; mask = one.mask; f
 abbrev pub received : List ℕ → Call
 received line = receive line (replicate 280 0) (32768 ∷ 0 ∷ []) (replicate 1024 0)
 
--- read-back (D2.6): the content is sent, a fill puts its closing flag out, and the octets that went out put it into the slot of a booking that receives them
+-- read-back: the content is sent, a fill puts its closing flag out, and the octets that went out put it into the slot of a booking that receives them
 abbrev pub line_by : Program → List ℕ → List ℕ
 line_by p content =
     let sent = p (link_by p (opening one ∷ [])) (send content (replicate 336 0)) in
@@ -49,11 +49,11 @@ wrong = received (0x7e ∷ 0 ∷ 0 ∷ 0 ∷ 0 ∷ 0 ∷ 0x7e ∷ [])
 pub record Useful (p : Program) : Type 0 where
   pub reads-back : ReadsBack p (0x1f ∷ 2 ∷ 3 ∷ [])
   pub reads_other : ReadsBack p (1 ∷ 2 ∷ 3 ∷ [])
-  -- the wipe (D1.3): each lent octet and word is zero
+  -- the wipe: each lent octet and word is zero
   pub wipes : (p new_link (wipe (1 ∷ []) (1 ∷ []))).lent ≡ (0 ∷ []) ∷ (0 ∷ []) ∷ []
-  -- demand 3: the alarm at the second event, the end of a stretch that reaches the threshold 2: octet 13 of its record
+  -- the alarm over lists of calls: the alarm at the second event, the end of a stretch that reaches the threshold 2: octet 13 of its record
   pub second-event : get_or (get_or (p (link_by p (opening two ∷ command 2 ∷ wrong ∷ [])) wrong).lent 3 []) 13 0 ≡ 1
-  -- counts by the history of units (D2.2): none at opening, two after two good units
+  -- counts by the history of units: none at opening, two after two good units
   pub none-good : (link_by p (opening one ∷ [])).units.counts.good ≡ 0
   pub two_good : (link_by p (opening one ∷ received (0x7e ∷ fisu ++ fisu) ∷ [])).units.counts.good ≡ 2
 

@@ -1,3 +1,3 @@
-// Document 01's table of proved cases, under one statement. There is no code here.
+// The scope's table of proved cases, under one statement. There is no code here.
 
 #![tactic(auto)]

@@ -2,10 +2,11 @@
 
 #![tactic(auto)]
 
-ghost use Rattle.std.specs.Prelude.{◌≡◌, ◌≤◌, length, take, true};
+ghost use Rattle.std.specs.Prelude.{◌≤◌, length, take, OnOk};
 ghost use Rattle.std.specs.Io.KnownBytes.{Consumes, Appends};
 ghost use Rattle.check_prefixes.specs.Checks.{checks_of};
 
+use std::io;
 use std::io::{Read, Write};
 
 // Reads until buf is full, the input ends or a read fails, and returns how many octets it put at the start of buf.
@@ -14,28 +15,20 @@ fn read_full<R: Read>(input: &mut R, buf: &mut [u8]) -> usize
     ensures octets { Consumes (R.remaining input.old) (R.remaining input.new) (take result buf.new) }
 {
     let mut done: usize = 0;
-    while done < buf.len() {
-        match input.read(&mut buf[done..]) {
-            Ok(0) => return done,
-            Ok(n) => done += n,
-            Err(_) => return done,
-        }
+    while let Ok(n @ 1..) = input.read(&mut buf[done..]) {
+        done += n;
     }
     done
 }
 
-// Writes the check octets of each beginning, and answers whether it could.
-fn write_checks<W: Write>(output: &mut W, octets: &[u8]) -> bool
-    ensures { result ≡ true → Appends (W.contents output.old) (W.contents output.new) (checks_of octets.now (length octets.now)) }
+// Writes the check octets of each beginning, as long as it can.
+fn write_checks<W: Write>(output: &mut W, octets: &[u8]) -> io::Result<()>
+    ensures { OnOk result (Appends (W.contents output.old) (W.contents output.new) (checks_of octets.now (length octets.now))) }
 {
-    let mut i: usize = 0;
-    let mut is_written = true;
-    while i < octets.len() && is_written {
-        i += 1;
-        let check = fcs::check_octets(&octets[..i]);
-        is_written = output.write_all(&check).is_ok();
+    for n in 1..=octets.len() {
+        output.write_all(&fcs::check_octets(&octets[..n]))?;
     }
-    is_written
+    Ok(())
 }
 
 fn main(rt: HostRuntime) {

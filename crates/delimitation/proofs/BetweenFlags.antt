@@ -10,7 +10,7 @@ use lib.ListN.{length, take, replicate, length-append, length-take}
 use lib.Seq.{append_snoc, take-append_seam, take-append-le}
 use Rattle.bits.proofs.Machines.{run-append, outs-append}
 use Rattle.bits.proofs.Digits.{snoc-length}
-use Rattle.bits.proofs.Tests.{both}
+use Rattle.std.proofs.lemmas.Bool.{and_parts}
 use Rattle.framing.specs.Delimitation.{Receiver, Finding, long, inside, hunts, flagged, unit, gather, step_bit, next, finds, receiver_after, findings}
 use Rattle.sending.specs.Stuffing.{flag}
 use Rattle.delimitation.specs.BetweenFlags.{no_six, unstuffed, ones_at_end, found_of, FlagRead, BetweenFlags}
@@ -84,7 +84,7 @@ hunted : (M r : ℕ) (bs : List Bool) → r ≤ 5 → no_six r bs ≡ true → R
 unfolding no_six
 hunted M r [] h k = hunted-zero M r (replicate 6 true ++ (false ∷ [])) h (hunted-ones M 6 0 refl)
 hunted M r (true ∷ bs) h k =
-    let t = both (ltb r 5) (no_six (r + 1) bs) k in
+    let t = and_parts (ltb r 5) (no_six (r + 1) bs) k in
     let l : r < 5 = ltb-true r 5 t.0 in
     hunted-one M r (bs ++ flag) h (hunted M (r + 1) bs (omega arith) t.1)
 hunted M r (false ∷ bs) h k = hunted-zero M r (bs ++ flag) h (hunted M 0 bs (omega arith) k)
@@ -151,7 +151,7 @@ inside-bits : (M r : ℕ) (g bs w : List Bool) → r ≤ 5 → no_six r bs ≡ t
 unfolding no_six unstuffed ones_at_end
 inside-bits M r g [] w h k m a = rw (← a, append-nil) (inside-flag M r g h m)
 inside-bits M r g (true ∷ bs) w h k m a =
-    let t = both (ltb r 5) (no_six (r + 1) bs) k in
+    let t = and_parts (ltb r 5) (no_six (r + 1) bs) k in
     let o : r < 5 = ltb-true r 5 t.0 in
     let l : length w ≡ length g + suc (length (unstuffed (r + 1) bs)) = ap length (sym a) ∙ length-append g (true ∷ unstuffed (r + 1) bs) in
     reads-gathered M r (r + 1) g true (bs ++ flag) (found_of M (closes (ones_at_end (r + 1) bs) w)) (one-step M (inside r g) (omega arith))

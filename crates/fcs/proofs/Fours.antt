@@ -1,18 +1,17 @@
 -- Four octets at once, by four words of the table.
-use mathlib.Core.Path.{◌≡◌, refl, sym, ap, ap₂, subst, ◌∙◌}
+use mathlib.Core.Path.{◌≡◌, refl, sym, ap, ap₂, ◌∙◌}
 use mathlib.Core.List.{List, [], ◌∷◌}
-use Prim.Native.Nat.{ℕ, ◌+◌, ◌-◌, ◌/◌, ◌%◌, ◌≤◌, ◌<◌}
+use Prim.Native.Nat.{ℕ, ◌+◌, ◌/◌, ◌%◌, ◌≤◌, ◌<◌}
 use native.Mathlib.Omega.{arith}
-use lib.Bits.{bit_xor, xor_zero_r, xor_comm, xor_lt, xor_shr}
-use lib.ListN.{length, get_or}
+use lib.Bits.{bit_xor, xor_assoc, xor_zero_r, xor_comm, xor_lt, xor_shr}
+use lib.ListN.{length, drop, get_or}
 use Rattle.bits.specs.Octets.{bits_of, line_bits}
 use Rattle.fcs.specs.Check.{check_bits}
 use Rattle.fcs.specs.Table.{zeros, check_table}
 use Rattle.fcs.specs.Promises.{four_words, FourByTable}
-use Rattle.fcs.proofs.Xor.{xor_assoc}
 use Rattle.fcs.proofs.Linear.{zeros-xor, zeros-add, check-lt}
 use Rattle.fcs.proofs.Octetwise.{word, octet-zeros}
-use Rattle.fcs.proofs.Rest.{Rest, start, next}
+use Rattle.fcs.proofs.Rest.{Rest, first}
 
 abbrev fed : ℕ → ℕ → ℕ
 fed r o = check_bits r (bits_of 8 o)
@@ -91,44 +90,20 @@ four-by-lent : (t : List ℕ) → t ≡ check_table → (r a b c d : ℕ) → r 
 four-by-lent t e r a b c d h hb hc hd =
     ap (λ (w : List ℕ). four_words w r a b c d) e ∙ words r a b hb c d h hc hd ∙ sym (four r a b hb c d hc hd)
 
--- ---- the loop: the register is within sixteen bits, and the octets that are left, fed to it, give the whole
-abbrev pub Within : List ℕ → ℕ → ℕ → Type 0
-Within s r i = (r < 65536) × Rest s r i
+-- ---- the loop's step: the register stays within sixteen bits, and the octets behind the four, fed to it, give the whole
+within : (r o : ℕ) → r < 65536 → fed r o < 65536
+within r o h = check-lt (bits_of 8 o) r h
 
-pub start-within : (s : List ℕ) → Within s 0xffff 0
-start-within s = (omega arith, start s)
-
-pub next-four : (s t : List ℕ) (r i : ℕ) → t ≡ check_table → get_or s (i + 1) 0 < 256 → get_or s (i + 2) 0 < 256 → get_or s (i + 3) 0 < 256
-    → i + 4 ≤ length s → Within s r i → Within s (four_words t r (get_or s i 0) (get_or s (i + 1) 0) (get_or s (i + 2) 0) (get_or s (i + 3) 0)) (i + 4)
-next-four s t r i e hb hc hd n (h, l) = (
-  rw whole (within (get_or s (i + 3) 0) _ (within (get_or s (i + 2) 0) _ (within (get_or s (i + 1) 0) _ (within (get_or s i 0) r h)))),
-  later (i + 3) (i + 4) _ _ (omega arith) (omega arith) whole
-      (later (i + 2) (i + 3) _ _ (omega arith) (omega arith) refl
-      (later (i + 1) (i + 2) _ _ (omega arith) (omega arith) refl (next s r i _ (omega arith) refl l))),
-)
-  where
-    whole : four_words t r (get_or s i 0) (get_or s (i + 1) 0) (get_or s (i + 2) 0) (get_or s (i + 3) 0)
-        ≡ fed (fed (fed (fed r (get_or s i 0)) (get_or s (i + 1) 0)) (get_or s (i + 2) 0)) (get_or s (i + 3) 0)
-    whole = four-by-lent t e r (get_or s i 0) _ _ _ h hb hc hd
-
-    within : (o q : ℕ) → q < 65536 → fed q o < 65536
-    within o q k = check-lt (bits_of 8 o) q k
-
-    later : (j j' q q' : ℕ) → j + 1 ≡ j' → j < length s → q' ≡ fed q (get_or s j 0) → Rest s q j → Rest s q' j'
-    later j j' q q' k m f o = subst (Rest s q') k (next s q j q' m f o)
-
--- ---- where four octets more are left
-pub record FourLeft (i n : ℕ) : Type 0 where
-  pub first : i < n
-  pub second : i + 1 < n
-  pub third : i + 2 < n
-  pub fourth : i + 3 < n
-  pub all : i + 4 ≤ n
-  pub fewer : n - (i + 4) < n - i
-
-pub four-left : (i n : ℕ) → 4 ≤ n - i → FourLeft i n
-four-left i n h =
-    record { first = omega arith; second = omega arith; third = omega arith; fourth = omega arith; all = omega arith; fewer = omega arith }
-
-pub in_table : (b x : ℕ) → b ≤ 768 → x < 256 → b + x < 1024
-in_table b x h k = omega arith
+pub next-four : (s w : List ℕ) → w ≡ check_table → (r : ℕ) (t : List ℕ) → 4 ≤ length t → r < 65536
+    → get_or t 1 0 < 256 → get_or t 2 0 < 256 → get_or t 3 0 < 256 → Rest s r t
+    → (four_words w r (get_or t 0 0) (get_or t 1 0) (get_or t 2 0) (get_or t 3 0) < 65536)
+    × Rest s (four_words w r (get_or t 0 0) (get_or t 1 0) (get_or t 2 0) (get_or t 3 0)) (drop 4 t)
+next-four s w e r [] n h hb hc hd l = absurd (omega arith)
+next-four s w e r (a ∷ []) n h hb hc hd l = absurd (omega arith)
+next-four s w e r (a ∷ b ∷ []) n h hb hc hd l = absurd (omega arith)
+next-four s w e r (a ∷ b ∷ c ∷ []) n h hb hc hd l = absurd (omega arith)
+next-four s w e r (a ∷ b ∷ c ∷ d ∷ t) n h hb hc hd l =
+    let whole = four-by-lent w e r a b c d h hb hc hd in (
+      rw whole (within _ d (within _ c (within _ b (within r a h)))),
+      first s _ d t _ whole (first s _ c (d ∷ t) _ refl (first s _ b (c ∷ d ∷ t) _ refl (first s r a (b ∷ c ∷ d ∷ t) _ refl l))),
+    )

@@ -9,13 +9,13 @@ use native.Mathlib.Omega.{arith}
 use lib.Dec.{eqb}
 use lib.ListN.{length, replicate, length-replicate, replicate-append-replicate}
 use lib.Pow.{pow_pos, shr-shr}
-use lib.Bits.{bit_xor, differ, xor_comm, xor_lt, xor_zero_r, xor_mod, xor_shr}
+use lib.Bits.{bit_xor, xor_assoc, differ, xor_comm, xor_lt, xor_zero_r, xor_mod, xor_shr}
 use Rattle.bits.specs.Octets.{odd, bits_of}
 use Rattle.bits.proofs.Machines.{run-append}
 use Rattle.bits.proofs.Digits.{bits-low}
 use Rattle.fcs.specs.Check.{generator, differs, added, check_bit, check_bits}
 use Rattle.fcs.specs.Table.{zeros}
-use Rattle.fcs.proofs.Xor.{xor_low, xor-half, xor_assoc, twice-left, twice-right}
+use Rattle.fcs.proofs.Xor.{xor_low, xor-half, twice-left, twice-right}
 
 -- x's bits, lowest first, each turned where bs has a one
 abbrev pub mixed : ℕ → List Bool → List Bool

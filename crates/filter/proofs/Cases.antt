@@ -1,4 +1,4 @@
--- The proved cases of document 01 that are the filter's, P12 and P13, by computation.
+-- The scope's proved cases that are the filter's, P12 and P13, by computation.
 use mathlib.Core.Path.{refl}
 use Rattle.filter.specs.Unit.{kind_of, masked, same}
 use Rattle.filter.specs.Memory.{settled}

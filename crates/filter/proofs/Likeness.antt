@@ -2,11 +2,12 @@
 use Prim.Native.Nat.{ℕ}
 use mathlib.Core.Path.{◌≡◌, refl, sym, ap, ap₂, ◌∙◌}
 use mathlib.Core.Logic.{◌↔◌}
-use mathlib.Core.Bool.{true, ◌&&◌}
+use mathlib.Core.Bool.{Bool, true, ◌&&◌}
 use mathlib.Core.List.{List, [], ◌∷◌}
 use native.Mathlib.Omega.{arith}
 use lib.Bits.{bit_and}
 use lib.Dec.{eqb}
+use lib.Pointwise.{pointwise}
 use lib.ListN.{length, take, get_or}
 use borrow.Author.Tests.{eqb-true, eq-eqb}
 use Rattle.bits.proofs.Tests.{both}
@@ -53,6 +54,14 @@ same_self (x ∷ xs) = rw (eq-eqb x x refl) (same_self xs)
 pub same-exactly : (xs ys : List ℕ) → (same xs ys ≡ true) ↔ (xs ≡ ys)
 same-exactly xs ys = (same-equal xs ys, λ e. ap (same xs) (sym e) ∙ same_self xs)
 
+-- and the library's test of two lists, place by place
+pub pointwise-same : (xs ys : List ℕ) → pointwise eqb xs ys ≡ same xs ys
+unfolding same
+pointwise-same [] [] = refl
+pointwise-same [] (y ∷ ys) = refl
+pointwise-same (x ∷ xs) [] = refl
+pointwise-same (x ∷ xs) (y ∷ ys) = ap (λ (b : Bool). eqb x y && b) (pointwise-same xs ys)
+
 -- ---- alike
 -- an equal length and equal octets, as the tests have it
 pub equal-parts : (a b : ℕ) (xs ys : List ℕ) → eqb a b && same xs ys ≡ true → (a ≡ b) × (xs ≡ ys)
@@ -66,11 +75,6 @@ module _ (mask : List ℕ) where
 
   pub alike-of-parts : (u v : List ℕ) → length u ≡ length v → masked mask u ≡ masked mask v → alike mask u v ≡ true
   alike-of-parts u v l o = rw (eq-eqb (length u) (length v) l) ((same-exactly (masked mask u) (masked mask v)).1 o)
-
-  pub alike-symmetric : (u v : List ℕ) → alike mask u v ≡ true → alike mask v u ≡ true
-  alike-symmetric u v h =
-      let p = alike-parts u v h in
-      alike-of-parts v u (sym p.0) (sym p.1)
 
   pub alike-transitive : (u v w : List ℕ) → alike mask u v ≡ true → alike mask v w ≡ true → alike mask u w ≡ true
   alike-transitive u v w h k =

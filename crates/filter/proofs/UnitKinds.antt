@@ -6,7 +6,7 @@ use mathlib.Core.List.{List}
 use native.Mathlib.Omega.{arith}
 use lib.Dec.{eqb}
 use lib.ListN.{length}
-use borrow.Author.Tests.{eqb-true, eq-eqb, ne_eqb}
+use borrow.Author.Tests.{eqb-true, ne_eqb}
 use Rattle.bits.specs.Format.{Format, fill_in_octets, status_octets, long_status_octets}
 use Rattle.filter.specs.declared.Kind.{Kind}
 use Rattle.filter.specs.declared.Kind.TheVariants.{FillIn, LinkStatus, Message}
@@ -14,25 +14,6 @@ use Rattle.filter.specs.Unit.{kind_of}
 use Rattle.filter.specs.Predecessors.{is_message}
 
 module _ (F : Format) where
-  -- ---- from the length to the kind
-  module _ (u : List ℕ) where
-    pub fill-in-is : length u ≡ fill_in_octets F → kind_of F u ≡ FillIn
-    unfolding kind_of
-    fill-in-is h = rw (eq-eqb (length u) (fill_in_octets F) h)
-
-    pub status-is : length u ≡ status_octets F → kind_of F u ≡ LinkStatus
-    unfolding kind_of
-    status-is h = rw (ne_eqb (length u) (fill_in_octets F) (λ e. omega arith), eq-eqb (length u) (status_octets F) h)
-
-    pub long-status-is : length u ≡ long_status_octets F → kind_of F u ≡ LinkStatus
-    unfolding kind_of
-    long-status-is h =
-        rw (ne_eqb (length u) (fill_in_octets F) (λ e. omega arith), ne_eqb (length u) (status_octets F) (λ e. omega arith), eq-eqb (length u) (long_status_octets F) h)
-
-    pub more-is : (length u ≡ fill_in_octets F → ⊥) → (length u ≡ status_octets F → ⊥) → (length u ≡ long_status_octets F → ⊥) → kind_of F u ≡ Message
-    unfolding kind_of
-    more-is f s v = rw (ne_eqb (length u) (fill_in_octets F) f, ne_eqb (length u) (status_octets F) s, ne_eqb (length u) (long_status_octets F) v)
-
   -- ---- from the kind to the length
   module _ (u : List ℕ) where
     pub fill-in-length : kind_of F u ≡ FillIn → length u ≡ fill_in_octets F
@@ -50,10 +31,10 @@ module _ (F : Format) where
       where
         go : (a b : Bool) → eqb (length u) (status_octets F) ≡ b → (c : Bool) → eqb (length u) (long_status_octets F) ≡ c
             → cond a FillIn (cond (b || c) LinkStatus Message) ≡ LinkStatus → (status_octets F ≤ length u) × (length u ≤ long_status_octets F)
-        go true b e c f k = let y : ◌≡◌ {A = ℕ} 0 1 = cc in absurd (omega arith)
+        go true b e c f k = absurd (cc)
         go false true e c f k = omega (arith, eqb-true (length u) (status_octets F) e)
         go false false e true f k = omega (arith, eqb-true (length u) (long_status_octets F) f)
-        go false false e false f k = let y : ◌≡◌ {A = ℕ} 0 1 = cc in absurd (omega arith)
+        go false false e false f k = absurd (cc)
 
   -- ---- what follows of likeness
   -- an empty memory, which has length 0, holds no unit like one that is no message

@@ -8,7 +8,7 @@ ghost use Rattle.filter.specs.Unit.{kind_of, masked, same};
 ghost use Rattle.filter.specs.Memory.{empty_memory, repeats, forgets, settled};
 
 // Fill-in unit (FISU), link status unit (LSSU), message unit (MSU).
-#[derive(Clone, Copy)]
+#[derive(Clone, Copy, PartialEq, Eq)]
 pub enum Kind {
     FillIn,
     LinkStatus,
@@ -16,9 +16,9 @@ pub enum Kind {
 }
 
 // The last good unit that went to a slot: its length, its first octets under the mask, and whether the unit before
-// it was like it. Length 0 is the empty memory.
+// it was like it. Length 0 is the empty memory, and no Option, since the C link (HostMemory) shows all three fields.
 #[repr(C)]
-#[derive(Clone, Copy)]
+#[derive(Clone, Copy, PartialEq, Eq)]
 pub struct Memory {
     pub length: u16,
     pub octets: [u8; 5],
@@ -26,14 +26,14 @@ pub struct Memory {
 }
 
 // What becomes of a good unit.
-#[derive(Clone, Copy)]
+#[derive(Clone, Copy, PartialEq, Eq)]
 pub enum Fate {
     HandedOver,
     Dropped,
     Lost,
 }
 
-#[derive(Clone, Copy)]
+#[derive(Clone, Copy, PartialEq, Eq)]
 pub struct Settled {
     pub fate: Fate,
     pub memory: Memory,
@@ -53,22 +53,18 @@ impl Memory {
 }
 
 // The kind of a unit of so many octets, check octets included.
+#[tactic(auto, unfolding(crate::specs::Unit::kind_of))]
 pub fn kind_of(octets: u16) -> Kind
     ensures { (u : List ℕ) → length u ≡ octets → result ≡ kind_of basic u }
 {
-    if octets == 5 {
-        return Kind::FillIn;
+    match octets {
+        5 => Kind::FillIn,
+        6 | 7 => Kind::LinkStatus,
+        _ => Kind::Message,
     }
-    if octets == 6 {
-        return Kind::LinkStatus;
-    }
-    if octets == 7 {
-        return Kind::LinkStatus;
-    }
-    Kind::Message
 }
 
-// The first five octets of a unit under the mask.
+// The first five octets of a unit under the mask. By `array::from_fn` the proof does not close: its items are told one at a time.
 pub fn masked_unit(first: [u8; 5], mask: [u8; 5]) -> [u8; 5]
     ensures { result ≡ masked mask first }
 {
@@ -85,16 +81,14 @@ pub fn masked_unit(first: [u8; 5], mask: [u8; 5]) -> [u8; 5]
 pub fn same_five(a: [u8; 5], b: [u8; 5]) -> bool
     ensures { result ≡ same a b }
 {
-    (a[0] == b[0]) & (a[1] == b[1]) & (a[2] == b[2]) & (a[3] == b[3]) & (a[4] == b[4])
+    a == b
 }
 
 // Whether the memory holds a unit like one of so many octets with these five under the mask.
 fn holds_like(memory: Memory, octets: u16, five: [u8; 5]) -> bool
     ensures { result ≡ (eqb memory.length octets && same memory.octets five) }
 {
-    let held = memory.octets;
-    let same = same_five(held, five);
-    (memory.length == octets) & same
+    (memory.length == octets) & same_five(memory.octets, five)
 }
 
 // Whether a unit of this kind is dropped: `like` says that the memory holds its like, `before` that the unit before that one was
@@ -102,28 +96,22 @@ fn holds_like(memory: Memory, octets: u16, five: [u8; 5]) -> bool
 fn is_dropped(on: bool, kind: Kind, like: bool, before: bool) -> bool
     ensures { result ≡ (on && repeats kind like before) }
 {
-    if on {
-        match kind {
-            Kind::FillIn => return like,
-            Kind::LinkStatus => return like & before,
-            Kind::Message => return false,
-        }
+    on & match kind {
+        Kind::FillIn => like,
+        Kind::LinkStatus => like & before,
+        Kind::Message => false,
     }
-    false
 }
 
 // What is remembered of a unit that goes to a slot: itself, unless it is a message or the filter is off.
 fn remembered(on: bool, kind: Kind, unit: Memory) -> Memory
     ensures { result ≡ cond on (forgets basic kind unit) (empty_memory basic) }
 {
-    if on {
-        match kind {
-            Kind::FillIn => return unit,
-            Kind::LinkStatus => return unit,
-            Kind::Message => return Memory::empty(),
-        }
+    if on && kind != Kind::Message {
+        unit
+    } else {
+        Memory::empty()
     }
-    Memory::empty()
 }
 
 // What becomes of a good unit, given by its length and its first five octets, whose next slot is free or not.
@@ -140,29 +128,25 @@ pub fn settle(
 {
     let kind = kind_of(octets);
     let five = masked_unit(first, mask);
-    let like = holds_like(memory, octets, five);
-    let before = memory.alike;
     let unit = Memory {
         length: octets,
         octets: five,
-        alike: like,
+        alike: holds_like(memory, octets, five),
     };
-    if is_dropped(on, kind, like, before) {
+    if is_dropped(on, kind, unit.alike, memory.alike) {
         return Settled {
             fate: Fate::Dropped,
-            memory: memory,
+            memory,
         };
     }
     if free {
-        let kept = remembered(on, kind, unit);
         return Settled {
             fate: Fate::HandedOver,
-            memory: kept,
+            memory: remembered(on, kind, unit),
         };
     }
-    let empty = Memory::empty();
     Settled {
         fate: Fate::Lost,
-        memory: empty,
+        memory: Memory::empty(),
     }
 }

@@ -1,4 +1,4 @@
--- Proved cases of document 01 that delimitation decides, by computation.
+-- Proved cases of the scope that delimitation decides, by computation.
 use mathlib.Core.Path.{refl}
 use Rattle.bits.specs.Octets.{bits_of, line_bits}
 use Rattle.framing.specs.Delimitation.{step_bit}

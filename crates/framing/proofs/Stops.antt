@@ -26,10 +26,10 @@ unclosed : (st : Receiver × List Finding) → Unclosed st.1 → AtFlag st
 unclosed st n u fs e = absurd (go st.1 e n)
   where
     go : (gs : List Finding) → gs ≡ closed u ∷ fs → Unclosed gs → ⊥
-    go [] q n = let z : ◌≡◌ {A = ℕ} 0 1 = cc in omega arith
+    go [] q n = cc
     go (closed v ∷ gs) q n = n
-    go (abort ∷ gs) q n = let z : ◌≡◌ {A = ℕ} 0 1 = cc in omega arith
-    go (long ∷ gs) q n = let z : ◌≡◌ {A = ℕ} 0 1 = cc in omega arith
+    go (abort ∷ gs) q n = cc
+    go (long ∷ gs) q n = cc
 
 gather-flag : (M : ℕ) (s : Receiver) (r : ℕ) (b : Bool) → AtFlag (gather M s r b)
 gather-flag M s r b = go s.hunting refl (ltb (8 * M + 7) (length s.gathered + 1)) refl
@@ -70,7 +70,7 @@ reading-single M (b ∷ bs) s = go (finds M s b) (finds-single M s b) (reading-s
 pub reading-flag : (M : ℕ) (bs : List Bool) (s : Receiver) (u : List Bool) (fs : List Finding)
     → (reading M s bs).found ≡ closed u ∷ fs → (reading M s bs).state ≡ flagged
 unfolding reading
-reading-flag M [] s u fs e = let z : ◌≡◌ {A = ℕ} 0 1 = cc in absurd (omega arith)
+reading-flag M [] s u fs e = cc
 reading-flag M (b ∷ bs) s u fs e = go (finds M s b) refl (λ v gs q. reading-flag M bs (next M s b) v gs q) e
   where
     later : Reading

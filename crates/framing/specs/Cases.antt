@@ -1,4 +1,4 @@
--- Proved cases of document 01 that delimitation decides, with M = 278.
+-- Proved cases of the scope that delimitation decides, with M = 278.
 use Rattle.std.specs.Prelude.{ℕ, ◌≡◌, Bool, true, false, List, [], ◌∷◌, ◌++◌, replicate}
 use Rattle.bits.specs.Octets.{bits_of, line_bits}
 use Rattle.bits.specs.Format.{basic, most_longest}

@@ -1,4 +1,4 @@
--- "From line bits to units": document 01's rule for one bit, and the bits of a line.
+-- "From line bits to units": the scope's rule for one bit, and the bits of a line.
 use Rattle.std.specs.Prelude.{ℕ, ◌+◌, ◌-◌, ◌*◌, min, Bool, true, false, cond, List, [], ◌∷◌, ◌++◌, length, take, eqb, ltb}
 use Rattle.bits.specs.Machine.{run, outs}
 

@@ -1,9 +1,9 @@
 -- How the code reads bits: up to a finding, with the gathered bits in the area.
-use Rattle.std.specs.Prelude.{ℕ, ◌+◌, ◌*◌, ◌≤◌, ◌≡◌, Bool, true, false, List, [], ◌∷◌, length, take}
+use Rattle.std.specs.Prelude.{ℕ, ◌+◌, ◌*◌, ◌≤◌, ◌≡◌, Bool, true, List, [], ◌∷◌, length, take, Option, None, Some}
 use Rattle.bits.specs.Octets.{bits_of, line_bits, packed}
 use Rattle.framing.specs.declared.Line.{Line}
 use Rattle.framing.specs.declared.Found.{Found}
-use Rattle.framing.specs.declared.Found.TheVariants.{Nothing, Closed, Abort, Long}
+use Rattle.framing.specs.declared.Found.TheVariants.{Closed, Abort, Long}
 use Rattle.framing.specs.declared.Step.{Step}
 use Rattle.framing.specs.declared.Fed.{Fed}
 use Rattle.framing.specs.Delimitation.{Receiver, Finding, closed, abort, long, next, finds}
@@ -36,17 +36,11 @@ abbrev pub IsWellFormed : ℕ → Line → List ℕ → Type 0
 IsWellFormed M l area = Holds M l l.bits area
 
 -- what the code says of a finding
-abbrev pub shows : List Finding → Found
-shows [] = Nothing
-shows (closed u ∷ fs) = Closed (length u)
-shows (abort ∷ fs) = Abort
-shows (long ∷ fs) = Long
-
-abbrev pub is_found : Found → Bool
-is_found Nothing = false
-is_found (Closed n) = true
-is_found Abort = true
-is_found Long = true
+abbrev pub shows : List Finding → Option Found
+shows [] = None
+shows (closed u ∷ fs) = Some (Closed (length u))
+shows (abort ∷ fs) = Some Abort
+shows (long ∷ fs) = Some Long
 
 -- the bits of a unit that was closed
 abbrev pub unit_in : List Finding → List Bool
@@ -56,11 +50,11 @@ unit_in (abort ∷ fs) = []
 unit_in (long ∷ fs) = []
 
 -- how many bits stand in the area: a closed unit and the seven bits of its flag, or what is gathered
-abbrev pub standing : Found → ℕ → ℕ
-standing Nothing n = n
-standing (Closed k) n = k + 7
-standing Abort n = n
-standing Long n = n
+abbrev pub standing : Option Found → ℕ → ℕ
+standing None n = n
+standing (Some (Closed k)) n = k + 7
+standing (Some Abort) n = n
+standing (Some Long) n = n
 
 -- what a step gives: the receiver and the finding of its definition, with a closed unit at the front of the area
 pub record Stepped (M : ℕ) (st : Receiver × List Finding) (r : Step) (area : List ℕ) : Type 0 where

@@ -1,4 +1,4 @@
--- What is to be said of a closed unit, in document 01's order.
+-- What is to be said of a closed unit, in the scope's order.
 use Rattle.std.specs.Prelude.{◌*◌, ◌%◌, Bool, cond, List, eqb, ltb, length}
 use Rattle.bits.specs.Format.{Format, fill_in_octets}
 use Rattle.fcs.specs.Check.{check_bits, good_residue}

@@ -1,5 +1,5 @@
 -- How a link crosses to a host in C or Rust and back: switches and the monitor's mode as numbers, all else as it is.
-use Rattle.std.specs.Prelude.{ℕ, Bool, true, ◌&&◌, cond, eqb, leb}
+use Rattle.std.specs.Prelude.{ℕ, Bool, true, ◌&&◌, cond, eqb, leb, Option, Some, None}
 use Rattle.monitor.specs.declared.Mode.{Mode}
 use Rattle.monitor.specs.declared.Mode.TheVariants.{Off, Failure, Alignment, Idle}
 use Rattle.board.specs.declared.Settings.{Settings}
@@ -17,6 +17,9 @@ is_switch n = leb n 1
 abbrev pub switch_of : ℕ → Bool
 switch_of n = eqb n 1
 
+abbrev pub switch_read : ℕ → Option Bool
+switch_read n = cond (is_switch n) (Some (switch_of n)) None
+
 abbrev pub of_switch : Bool → ℕ
 of_switch on = cond on 1 0
 
@@ -26,6 +29,9 @@ is_mode n = leb n 3
 
 abbrev pub mode_of : ℕ → Mode
 mode_of n = cond (eqb n 1) Failure (cond (eqb n 2) Alignment (cond (eqb n 3) Idle Off))
+
+abbrev pub mode_read : ℕ → Option Mode
+mode_read n = cond (is_mode n) (Some (mode_of n)) None
 
 abbrev pub of_mode : Mode → ℕ
 of_mode Off = 0
@@ -52,6 +58,9 @@ settings_of s =
       orn = switch_of s.orn;
     }
 
+abbrev pub settings_read : HostSettings → Option Settings
+settings_read s = cond (are_switches s) (Some (settings_of s)) None
+
 -- Settings that a host gives. Where a switch is none, that setting is out of range: they are taken as all zero, which open refuses with 4.
 unfoldable pub given_settings : HostSettings → Settings
 given_settings s = cond (are_switches s) (settings_of s) new_settings
@@ -64,6 +73,9 @@ readable h =
 
 abbrev pub transmitter_of : HostTransmitter → Transmitter
 transmitter_of t = record { flagged = switch_of t.flagged; count = t.count; wait = t.wait; sent = switch_of t.sent; last = t.last }
+
+abbrev pub transmitter_read : HostTransmitter → Option Transmitter
+transmitter_read t = cond (is_switch t.flagged && is_switch t.sent) (Some (transmitter_of t)) None
 
 abbrev pub link_of_fields : HostLink → Link
 link_of_fields h =
@@ -82,6 +94,9 @@ link_of_fields h =
           record { monitor = record { mode = mode_of h.mode; count = h.monitor.count; number = h.monitor.number }; events = h.events };
       transmitter = transmitter_of h.transmitter;
     }
+
+abbrev pub link_read : HostLink → Option Link
+link_read h = cond (readable h) (Some (link_of_fields h)) None
 
 -- open with K = 0, so malformed
 abbrev pub unread_link : Link

@@ -1,2 +1,3 @@
 -- The link as a host holds it.
 pub mod Crossing
+pub mod Answers

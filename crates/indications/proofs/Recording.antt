@@ -9,9 +9,7 @@ use lib.Seq.{sets}
 use Rattle.board.specs.Limits.{record_octets, monitor_limits}
 use Rattle.records.specs.declared.Happening.{Happening}
 use Rattle.board.specs.declared.Supervision.{Supervision}
-use Rattle.records.specs.declared.Noted.{Noted}
-use Rattle.records.specs.Happening.{noted}
-use Rattle.records.specs.Record.{record_of, supervised, recorded, supervision_after, records_of}
+use Rattle.records.specs.Record.{supervised, recorded, supervision_after, records_of}
 use Rattle.records.specs.Promises.{FirstFive}
 use Rattle.records.proofs.Supervising.{supervision-append, records-append, records-length}
 use Rattle.bits.proofs.Writing.{sets-append}
@@ -23,16 +21,6 @@ use Rattle.monitor.specs.declared.Limits.{Limits}
 use Rattle.units.specs.Units.{UnitMemory, unit_memory, Effect, effect, effect_of, unit_memory_after, happenings}
 use Rattle.indications.specs.declared.Progress.{Progress}
 use Rattle.indications.specs.InnerWriting.{CallState, holding, indications_done, NotedAndRecorded}
-
--- ---- one happening
-pub note-and-record-way : (s : Settings) (taken : Taken) (w : Supervision) (count : ℕ) (out : List ℕ) (n : Noted) (out' : List ℕ)
-    → n ≡ noted (monitor_limits s) w taken.happening → out' ≡ sets out (record_octets * count) (record_of taken.happening n.supervision.monitor.count n.raised)
-    → NotedAndRecorded s taken w count out (record { units = taken.units; supervision = n.supervision; count = count + 1 }) out'
-note-and-record-way s taken w count out n out' en eo =
-    record {
-      progress = ap {B = Progress} (λ (x : Noted). record { units = taken.units; supervision = x.supervision; count = count + 1 }) en;
-      area = eo ∙ ap (λ (x : Noted). sets out (record_octets * count) (record_of taken.happening x.supervision.monitor.count x.raised)) en;
-    }
 
 single-supervision : (l : Limits) (w : Supervision) (h : Happening) → supervision_after l w (h ∷ []) ≡ supervised l w h
 unfolding supervision_after

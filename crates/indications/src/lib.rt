@@ -2,13 +2,10 @@
 
 #![tactic(auto)]
 
-ghost use Rattle.std.specs.Prelude.{◌≡◌, List, [], ◌∷◌, map, ℕ, ◌+◌, ◌*◌, ◌≤◌, length};
-ghost use Rattle.board.specs.InnerRanges.{SettingsInRange, MonitorInRange};
-ghost use Rattle.board.specs.Limits.{record_octets, monitor_limits};
-ghost use Rattle.fcs.specs.Table.{check_table};
+ghost use Rattle.std.specs.Prelude.{◌≡◌, List, [], ◌∷◌, map, ℕ, ◌≤◌};
 ghost use Rattle.framing.specs.Delimitation.{Finding};
 ghost use Rattle.units.specs.Indications.{Indication, octet_end, found as found-indication};
-ghost use Rattle.indications.specs.InnerWriting.{NotedAndRecorded, Able, StandsIn, Shown, area_after, holding, indications_done};
+ghost use Rattle.indications.specs.InnerWriting.{NotedAndRecorded, CounterMoved, CanRecord, Able, StandsIn, Shown, area_after, holding, indications_done};
 
 use board::{Counting, Link, Settings, Supervision, UnitState};
 use framing::Found;
@@ -24,36 +21,30 @@ pub struct Progress {
     pub count: usize,
 }
 
-// What happened is noted by the monitor and recorded.
-pub fn note_and_record(
-    s: Settings,
-    taken: Taken,
-    supervision: Supervision,
-    count: usize,
-    out: &mut [u8],
-) -> Progress
-    requires { SettingsInRange s × (MonitorInRange s supervision.monitor) × (record_octets * count + record_octets ≤ length out.old) }
-    ensures { NotedAndRecorded s taken supervision count out.old result out.new }
+// `CanRecord` is each function's `requires`: it ties settings and progress to the lent record area, which no one type holds.
+
+// What happened is noted by the monitor and recorded. The monitor's limits are three of the settings; a From would serve this place alone.
+pub fn note_and_record(s: Settings, p: Progress, taken: Taken, out: &mut [u8]) -> Progress
+    requires { CanRecord s p out.old }
+    ensures { NotedAndRecorded s taken p.supervision p.count out.old result out.new }
 {
     let limits = Limits {
         t: s.t,
         d: s.d,
         a: s.a,
     };
-    let h = taken.happening;
-    let noted = records::note(limits, supervision, h);
-    let w = noted.supervision;
-    let m = w.monitor;
-    records::write_record(out, count, h, m.count, noted.raised);
-    let units = taken.units;
+    let noted = records::note(limits, p.supervision, taken.happening);
+    let supervision = noted.supervision;
+    let count = supervision.monitor.count;
+    records::write_record(out, p.count, taken.happening, count, noted.raised);
     Progress {
-        units: units,
-        supervision: w,
-        count: count + 1,
+        units: taken.units,
+        supervision,
+        count: p.count + 1,
     }
 }
 
-// What one finding does. A closed unit stands in the area, which is clear afterwards; the check's table is lent.
+// What one finding does. A closed unit stands in the area, which is clear afterwards.
 pub fn take_found(
     s: Settings,
     p: Progress,
@@ -62,80 +53,50 @@ pub fn take_found(
     pool: &mut [u8],
     descriptors: &mut [u16],
     out: &mut [u8],
-    table: &[u16; 1024],
 ) -> Progress
     requires able { Able s p pool.old descriptors.old out.old }
-    requires stands_in { StandsIn found area.old }
-    requires table_value { table.now ≡ check_table }
-    ensures out_after { (fs : List Finding) → Shown fs found area.old → holding result pool.new descriptors.new out.new ≡ indications_done s (holding p pool.old descriptors.old out.old) (map found-indication fs) }
-    ensures area_after { area.new ≡ area_after found area.old }
+    requires stands_in { StandsIn (Some found) area.old }
+    ensures out_after { (fs : List Finding) → Shown fs (Some found) area.old → holding result pool.new descriptors.new out.new ≡ indications_done s (holding p pool.old descriptors.old out.old) (map found-indication fs) }
+    ensures area_after { area.new ≡ area_after (Some found) area.old }
 {
-    match found {
-        Found::Nothing => p,
+    let taken = match found {
         Found::Closed(bits) => {
-            let units = p.units;
-            let taken = units::closed_unit(
-                s,
-                units,
-                &*area,
-                bits,
-                &mut *pool,
-                &mut *descriptors,
-                table,
-            );
-            framing::area::clear(&mut *area, bits + 7);
-            let supervision = p.supervision;
-            note_and_record(s, taken, supervision, p.count, &mut *out)
+            let taken = units::closed_unit(s, p.units, area, bits, pool, descriptors);
+            framing::area::clear(area, bits + 7);
+            taken
         }
-        Found::Abort => {
-            let units = p.units;
-            let taken = units::break_off(s, units, RecordKind::Abort, Link::EVENT_ABORT);
-            let supervision = p.supervision;
-            note_and_record(s, taken, supervision, p.count, &mut *out)
-        }
-        Found::Long => {
-            let units = p.units;
-            let taken = units::break_off(s, units, RecordKind::Long, Link::EVENT_LONG);
-            let supervision = p.supervision;
-            note_and_record(s, taken, supervision, p.count, &mut *out)
-        }
+        Found::Abort => units::break_off(s, p.units, RecordKind::Abort, Link::EVENT_ABORT),
+        Found::Long => units::break_off(s, p.units, RecordKind::Long, Link::EVENT_LONG),
+    };
+    note_and_record(s, p, taken, out)
+}
+
+// Octets of the line have ended: N's counter is at `left` now, and octet counting ticks, or nothing happens.
+pub fn move_counter(s: Settings, p: Progress, left: u16, ticks: bool, out: &mut [u8]) -> Progress
+    requires { CanRecord s p out.old }
+    ensures { CounterMoved s p left ticks out.old result out.new }
+{
+    let units = UnitState {
+        counting: Counting {
+            left,
+            ..p.units.counting
+        },
+        ..p.units
+    };
+    if ticks {
+        let happening = units::tick(units.counts.good);
+        return note_and_record(s, p, Taken { units, happening }, out);
     }
+    Progress { units, ..p }
 }
 
 // The end of a line octet: N's counter runs, and in octet counting it may tick.
 pub fn end_octet(s: Settings, p: Progress, out: &mut [u8]) -> Progress
-    requires { SettingsInRange s × (MonitorInRange s p.supervision.monitor) × (record_octets * p.count + record_octets ≤ length out.old) × (1 ≤ p.units.counting.left) }
+    requires { CanRecord s p out.old × (1 ≤ p.units.counting.left) }
     ensures { (pool descriptors : List ℕ) → holding result pool descriptors out.new ≡ indications_done s (holding p pool descriptors out.old) (octet_end ∷ []) }
 {
-    let d = p.units;
-    let counting = d.counting;
-    let memory = d.memory;
-    let slots = d.slots;
-    let counts = d.counts;
+    let counting = p.units.counting;
     let left = units::count_down(s.n, counting.left);
-    let units = UnitState {
-        counting: Counting {
-            on: counting.on,
-            left: left,
-        },
-        memory: memory,
-        slots: slots,
-        counts: counts,
-    };
-    let supervision = p.supervision;
-    if counting.left == 1 {
-        if counting.on {
-            let happening = units::tick(counts.good);
-            let taken = Taken {
-                units: units,
-                happening: happening,
-            };
-            return note_and_record(s, taken, supervision, p.count, &mut *out);
-        }
-    }
-    Progress {
-        units: units,
-        supervision: supervision,
-        count: p.count,
-    }
+    let ticks = counting.left == 1 && counting.on;
+    move_counter(s, p, left, ticks, out)
 }

@@ -1,13 +1,12 @@
 -- A receive call answered 0, the board that its link gives back, and the sum that the good count is.
 use Prim.Native.Nat.{ℕ, ◌+◌, ◌*◌, ◌≤◌}
 use mathlib.Core.Path.{◌≡◌, refl, sym, ap, subst, ◌∙◌}
-use mathlib.Core.Bool.{Bool, true, false, cond}
-use mathlib.Core.List.{List, []}
+use mathlib.Core.List.{List}
 use native.Mathlib.Omega.{arith}
-use lib.Dec.{eqb}
 use borrow.Author.Tests.{eqb-true, eqb-false}
 use lib.ListN.{length, take, drop}
 use lib.Seq.{sets-eq, take_at}
+use Rattle.std.proofs.lemmas.Bool.{cond_both}
 use Rattle.board.specs.Limits.{record_octets}
 use Rattle.bits.proofs.Packing.{unpack}
 use Rattle.board.specs.declared.Link.{Link}
@@ -17,14 +16,14 @@ use Rattle.units.specs.Units.{happenings}
 use Rattle.units.specs.Promises.{Sums}
 use Rattle.reception.specs.Line.{Board, line_happenings, line_records}
 use Rattle.reception.proofs.Cutting.{records-size, three-each, sum-over-line}
-use Rattle.link.specs.Refusals.{command_number}
 use Rattle.link.specs.Tables.{rising}
 use Rattle.input.specs.Refusals.{receive_number}
-use Rattle.link.specs.declared.CommandCode.{CommandCode}
-use Rattle.link.specs.declared.CommandCode.TheVariants.{MonitorOff, StartFailure, StartAlignment, MustHandOver, CountOctets, Unknown}
-use Rattle.link.specs.Commands.{command_of, obeyed}
+use Rattle.std.specs.Prelude.{Option, Some, None}
+use Rattle.link.specs.declared.Command.{Command}
+use Rattle.link.specs.declared.Command.TheVariants.{MonitorOff, StartFailure, StartAlignment, MustHandOver, CountOctets}
+use Rattle.link.specs.Commands.{command_of, obeyed, obeying}
 use Rattle.link.specs.Calls.{Outcome, open_answer, command_answer}
-use Rattle.link.specs.declared.Answer.{Answer}
+use Rattle.link.specs.Answer.{Answer}
 use Rattle.input.specs.Receive.{ReceiveOutcome, board_of, link_of, received, receive_answer}
 use Rattle.input.specs.Promises.{ReceiveRises, RefusedReceive, written, SumAtOpen, SumKeptByReceive, SumKeptByCommand, NoOctets}
 use Rattle.link.proofs.Answers.{done, refused}
@@ -42,14 +41,10 @@ refused-receive l octets pool descriptors records z = refused _ _ _ z
 pub answered : (l : Link) (octets pool descriptors records : List ℕ) → (receive_answer l octets pool descriptors records).number ≡ 0
     → (receive_number l octets pool descriptors records ≡ 0) × (receive_answer l octets pool descriptors records ≡ received l octets pool descriptors records)
 unfolding receive_answer
-answered l octets pool descriptors records e = go (eqb (receive_number l octets pool descriptors records) 0) refl
-  where
-    go : (b : Bool) → eqb (receive_number l octets pool descriptors records) 0 ≡ b
-        → (receive_number l octets pool descriptors records ≡ 0) × (receive_answer l octets pool descriptors records ≡ received l octets pool descriptors records)
-    go true q = let z = eqb-true _ 0 q in (z, done _ _ _ z)
-    go false q =
-        let z = eqb-false (receive_number l octets pool descriptors records) 0 q in
-        absurd (z (sym (ap (λ (x : ReceiveOutcome). x.number) (refused-receive l octets pool descriptors records z)) ∙ e))
+answered l octets pool descriptors records e =
+    let n = receive_number l octets pool descriptors records in
+    cond_both _ _ _ (λ (o : ReceiveOutcome). o.number ≡ 0 → (n ≡ 0) × (o ≡ received l octets pool descriptors records))
+    (λ q h. (eqb-true n 0 q, refl)) (λ q h. absurd (eqb-false n 0 q h)) e
 
 -- the records that it wrote are those of the line
 pub wrote : (l : Link) (octets pool descriptors records : List ℕ) → Receivable l octets pool descriptors records
@@ -75,40 +70,28 @@ sum-at-open l s pool descriptors z = subst (λ (x : Outcome). Sums x.link.units.
 
 pub sum-kept-by-receive : SumKeptByReceive
 unfolding receive_answer
-sum-kept-by-receive l octets pool descriptors records e = go (eqb (receive_number l octets pool descriptors records) 0)
-  where
-    go : (c : Bool)
-        → Sums (cond c (received l octets pool descriptors records)
-        (record { number = receive_number l octets pool descriptors records; link = l; count = 0; pool = pool; descriptors = descriptors; records = records })).link.units.counts
-    go true = sum-over-line l.settings (board_of l pool descriptors) octets e
-    go false = e
+sum-kept-by-receive l octets pool descriptors records e =
+    cond_both _ _ _ (λ (o : ReceiveOutcome). Sums o.link.units.counts) (λ q. sum-over-line l.settings (board_of l pool descriptors) octets e) (λ q. e)
 
-obeyed-counts : (c : CommandCode) (l : Link) → (obeyed c l).units.counts ≡ l.units.counts
+obeyed-counts : (c : Command) (l : Link) → (obeyed c l).units.counts ≡ l.units.counts
 unfolding obeyed
 obeyed-counts MonitorOff l = refl
 obeyed-counts StartFailure l = refl
 obeyed-counts StartAlignment l = refl
 obeyed-counts MustHandOver l = refl
 obeyed-counts CountOctets l = refl
-obeyed-counts Unknown l = refl
+
+obeying-counts : (c : Option Command) (l : Link) → (obeying c l).units.counts ≡ l.units.counts
+obeying-counts (Some c) l = obeyed-counts c l
+obeying-counts None l = refl
 
 pub sum-kept-by-command : SumKeptByCommand
 unfolding command_answer
-sum-kept-by-command l command e = go (eqb (command_number l command) 0)
-  where
-    go : (b : Bool)
-        → Sums (cond {A = Answer} b (record { number = 0; link = obeyed (command_of command) l }) (record { number = command_number l command; link = l })).link.units.counts
-    go true = subst Sums (sym (obeyed-counts (command_of command) l)) e
-    go false = e
+sum-kept-by-command l command e =
+    cond_both _ _ _ (λ (a : Answer). Sums a.link.units.counts) (λ q. subst Sums (sym (obeying-counts (command_of command) l)) e) (λ q. e)
 
 -- ---- P1
 pub no-octets : NoOctets
 unfolding receive_answer line_happenings line_records happenings line_indications records_of
-no-octets l pool descriptors records = go (eqb (receive_number l [] pool descriptors records) 0)
-  where
-    go : (b : Bool)
-        → let o = cond b (received l [] pool descriptors records)
-        (record { number = receive_number l [] pool descriptors records; link = l; count = 0; pool = pool; descriptors = descriptors; records = records }) in
-        (o.count ≡ 0) × (o.records ≡ records)
-    go true = (refl, refl)
-    go false = (refl, refl)
+no-octets l pool descriptors records =
+    cond_both _ _ _ (λ (o : ReceiveOutcome). (o.count ≡ 0) × (o.records ≡ records)) (λ q. (refl, refl)) (λ q. (refl, refl))

@@ -10,7 +10,7 @@ use Rattle.input.specs.Refusals.{receive_faults, receive_number}
 use Rattle.link.specs.Calls.{open_answer, command_answer}
 use Rattle.input.specs.Receive.{ReceiveOutcome, receive_answer}
 
--- D1.2: the faults are asked in rising number, and a refused call changes nothing.
+-- The faults are asked in rising number, and a refused call changes nothing.
 abbrev pub ReceiveRises : Type 0
 ReceiveRises = (l : Link) (octets pool descriptors records : List ℕ) → rising 0 (receive_faults l octets pool descriptors records) ≡ true
 

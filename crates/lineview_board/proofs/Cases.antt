@@ -19,9 +19,9 @@ use Rattle.link.specs.Calls.{open_answer, command_answer, hand_answer}
 use Rattle.input.specs.Receive.{receive_answer}
 use Rattle.link.specs.Refusals.{first, fits_memory, open_number, command_number, read_number}
 use Rattle.input.specs.Refusals.{receive_number}
-use Rattle.lineview_board.specs.View.{board_opened, handed_from, octet_fed, all_written}
+use Rattle.lineview_board.specs.View.{booking_opened, handed_from, octet_fed, all_written}
 use Rattle.lineview_board.specs.Promises.{P2}
 
 pub p2 : P2
-unfolding all_written board_opened handed_from octet_fed bits_of line_bits octet_of packed whole_octets step_bit reading verdict_of step zeros empty_descriptors clear_area no_ones zero_past in_range line_out counter_out monitor_out transmitter_out open_malformed is_new malformed table row_of noted record_of supervision_after records_of errored_unit closed_unit octet_effect effect_of unit_memory_after happenings line_receiver line_indications line_happenings board_after line_records open_answer command_of obeyed command_answer hand_answer receive_answer first fits_memory open_number command_number read_number receive_number
+unfolding all_written booking_opened handed_from octet_fed bits_of line_bits octet_of packed whole_octets step_bit reading verdict_of step zeros empty_descriptors clear_area no_ones zero_past in_range line_out counter_out monitor_out transmitter_out open_malformed is_new malformed table row_of noted record_of supervision_after records_of errored_unit closed_unit octet_effect effect_of unit_memory_after happenings line_receiver line_indications line_happenings board_after line_records open_answer command_of obeyed command_answer hand_answer receive_answer first fits_memory open_number command_number read_number receive_number
 p2 = refl

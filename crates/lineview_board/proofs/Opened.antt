@@ -9,7 +9,7 @@ use Rattle.board.specs.Malformed.{in_range, is_new, malformed, zero_past, open_m
 use Rattle.link.specs.Refusals.{fits_memory, first, open_number, command_number}
 use Rattle.link.specs.Commands.{command_of, obeyed}
 use Rattle.link.specs.Calls.{open_answer, command_answer, opened_link}
-use Rattle.lineview_board.specs.View.{row_one, board_opened}
+use Rattle.lineview_board.specs.View.{row_one, booking_opened}
 use Rattle.lineview_board.specs.Promises.{BookingOpens}
 
 opens : open_number new_link row_one (replicate 4480 0) (replicate 32 0) ≡ 0
@@ -21,5 +21,5 @@ unfolding command_number command_of first malformed open_malformed zero_past in_
 starts = refl
 
 pub booking-opens : BookingOpens
-unfolding board_opened open_answer command_answer command_of obeyed
+unfolding booking_opened open_answer command_answer command_of obeyed
 booking-opens = rw opens (rw starts refl)

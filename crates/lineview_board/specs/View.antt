@@ -15,10 +15,14 @@ abbrev pub row_one : Settings
 row_one = row_settings 1 16 false
 
 -- opened, then command 2
-unfoldable pub board_opened : List ℕ → List ℕ → Held
-board_opened pool descriptors =
-    let o = open_answer new_link row_one pool descriptors in
+unfoldable pub booking_opened : Settings → List ℕ → List ℕ → Held
+booking_opened s pool descriptors =
+    let o = open_answer new_link s pool descriptors in
     record { link = (command_answer o.link 2).link; pool = o.pool; descriptors = o.descriptors }
+
+-- the program's booking
+abbrev pub board_opened : List ℕ → List ℕ → Held
+board_opened pool descriptors = booking_opened row_one pool descriptors
 
 -- so many slots, from one on
 unfoldable pub handed_from : ℕ → ℕ → Held → Held

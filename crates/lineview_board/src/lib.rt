@@ -6,13 +6,14 @@ ghost use Rattle.std.specs.Prelude.{◌≡◌, not, eqb, ◌*◌, ◌≤◌, len
 ghost use Rattle.memory.specs.declared.Status.TheVariants.{Empty};
 ghost use Rattle.memory.specs.Lent.{status_of, status_word};
 ghost use Rattle.board.specs.Limits.{record_octets};
-ghost use Rattle.lineview_board.specs.View.{row_one, board_opened, filled_back, octet_fed};
+ghost use Rattle.input.specs.Receive.{outcome_of};
+ghost use Rattle.lineview_board.specs.View.{row_one, booking_opened, board_opened, filled_back, octet_fed};
 
 use board::{Link, Settings};
-use input::Received;
+use link::{Counted, Refusal};
 
-// Row 1 with 16 slots, the mask all ones, the switches off.
-fn settings() -> Settings
+// Row 1 with 16 slots, the mask all ones, the switches off. A row is five of the settings; a From would serve this place alone.
+pub fn settings() -> Settings
     ensures { result ≡ row_one }
 {
     let row = calls::numbers(1);
@@ -30,50 +31,54 @@ fn settings() -> Settings
     }
 }
 
-// A new booking with the failure monitor started.
+// A new booking with the failure monitor started. What is refused leaves the link as it was.
+pub fn open_booking(settings: Settings, pool: &mut [u8], descriptors: &mut [u16]) -> Link
+    ensures { record { link = result; pool = pool.new; descriptors = descriptors.new } ≡ booking_opened settings pool.old descriptors.old }
+{
+    let closed = Link::new();
+    let opened = calls::open(closed, settings, pool, descriptors).unwrap_or(closed);
+    calls::command(opened, 2).unwrap_or(opened)
+}
+
+// The program's booking.
 pub fn open_board(pool: &mut [u8], descriptors: &mut [u16]) -> Link
     ensures { record { link = result; pool = pool.new; descriptors = descriptors.new } ≡ board_opened pool.old descriptors.old }
 {
-    let closed = Link::new();
-    let s = settings();
-    let opened = calls::open(closed, s, pool, descriptors);
-    let started = calls::command(opened.link, 2);
-    started.link
+    open_booking(settings(), pool, descriptors)
 }
 
 // Whether a slot's status is not empty; a slot past the end of the descriptors counts as filled, and the call then refuses it.
 fn is_filled(descriptors: &[u16], slot: u16) -> bool
     ensures { result ≡ not (eqb (status_of descriptors.now slot) (status_word Empty)) }
 {
-    memory::word_at(descriptors, 2 * (slot as usize)) != Link::STATUS_EMPTY
+    memory::word_at(descriptors, 2 * slot as usize) != Link::STATUS_EMPTY
 }
 
 // Hands back each slot that is not empty: for an empty one the call is refused and changes nothing. The link stays as it is.
+#[tactic(auto, using(crate::proofs::Views::all_back))]
 pub fn hand_back_filled(link: Link, pool: &mut [u8], descriptors: &mut [u16])
     ensures { record { link = link; pool = pool.new; descriptors = descriptors.new } ≡ filled_back (record { link = link; pool = pool.old; descriptors = descriptors.old }) }
 {
-    let mut slot: u16 = 0;
-    while slot < Link::MOST_SLOTS {
-        if is_filled(&*descriptors, slot) {
-            let _ = calls::hand_back(link, &mut *pool, &mut *descriptors, slot);
+    for slot in 0..Link::MOST_SLOTS {
+        if is_filled(descriptors, slot) {
+            let _ = calls::hand_back(link, pool, descriptors, slot);
         }
-        slot += 1;
     }
 }
 
-// One line octet, and filled slots handed back at once.
+// One line octet, and filled slots handed back at once, also where the call is refused.
 pub fn feed(
     link: Link,
     octet: u8,
     pool: &mut [u8],
     descriptors: &mut [u16],
     records: &mut [u8],
-) -> Received
-    ensures { record { number = result.number; link = result.link; count = result.count; pool = pool.new; descriptors = descriptors.new; records = records.new } ≡ octet_fed link octet pool.old descriptors.old records.old }
+) -> Result<Counted, Refusal>
+    ensures { outcome_of link result pool.new descriptors.new records.new ≡ octet_fed link octet pool.old descriptors.old records.old }
 {
-    let octets = [octet];
-    let got = calls::receive(link, &octets, &mut *pool, &mut *descriptors, records);
-    hand_back_filled(got.link, pool, descriptors);
+    let got = calls::receive(link, &[octet], &mut *pool, &mut *descriptors, records);
+    let after = got.map_or(link, |received| received.link);
+    hand_back_filled(after, pool, descriptors);
     got
 }
 
@@ -82,9 +87,5 @@ pub fn octets_of(count: usize, records: &[u8]) -> usize
     ensures upper_bound { result ≤ length records.now }
     ensures value { record_octets * count ≤ length records.now → result ≡ record_octets * count }
 {
-    if count <= records.len() / Link::RECORD {
-        Link::RECORD * count
-    } else {
-        records.len()
-    }
+    Link::RECORD.saturating_mul(count).min(records.len())
 }

@@ -67,16 +67,18 @@ module _ (octets : List ℕ) (h₀ h : Held) (area : List ℕ) (at i : ℕ) (bel
   next : drop i octets ≡ octet ∷ drop (i + 1) octets
   next = drop-cons octets i 0 below ∙ ap (λ (k : ℕ). octet ∷ drop k octets) (sym (add-one i))
 
-  pub fed-more : (f : ReceiveOutcome) → length f.records ≡ length (mid_of at (length area - at) area)
+  pub fed-more : (f : ReceiveOutcome) (at' : ℕ) → length f.records ≡ length (mid_of at (length area - at) area)
       → f ≡ octet_fed h.link (get_or octets i 0) h.pool h.descriptors (mid_of at (length area - at) area)
-      → Fed octets h₀ (record { link = f.link; pool = f.pool; descriptors = f.descriptors }) (put_mid at (length area - at) area f.records) (at + record_octets * f.count) (i + 1)
-  fed-more f kept e =
+      → at' ≡ at + record_octets * f.count
+      → Fed octets h₀ (record { link = f.link; pool = f.pool; descriptors = f.descriptors }) (put_mid at (length area - at) area f.records) at' (i + 1)
+  fed-more f at' kept e behind-at =
       let held : record { link = f.link; pool = f.pool; descriptors = f.descriptors } ≡ passed h octet =
       ap {B = Held} (λ (x : ReceiveOutcome). record { link = x.link; pool = x.pool; descriptors = x.descriptors }) e ∙ fed-passed h octet lent lent-room in
       let records : take (record_octets * f.count) f.records ≡ view_records h octet =
       ap (λ (x : ReceiveOutcome). take (record_octets * x.count) x.records) e ∙ fed-written h octet lent lent-room in
       let count : f.count ≤ 3 = fed-few _ _ _ _ _ e in
-      record {
+      rw behind-at
+      (record {
         held =
             ap (λ (x : Held). all_passed x (drop (i + 1) octets)) held
             ∙ sym (ap (all_passed h) next ∙ octet-step h octet (drop (i + 1) octets)) ∙ so_far.held;
@@ -86,7 +88,7 @@ module _ (octets : List ℕ) (h₀ h : Held) (area : List ℕ) (at i : ℕ) (bel
             ∙ append_assoc (take at area) (view_records h octet) (all_written (passed h octet) (drop (i + 1) octets))
             ∙ ap (λ (xs : List ℕ). take at area ++ xs) (sym (ap (all_written h) next ∙ record-step h octet (drop (i + 1) octets))) ∙ so_far.records;
         few = omega (arith, so_far.few);
-      }
+      })
 
 -- all fed
 pub all-fed : (octets : List ℕ) (h₀ h : Held) (area : List ℕ) (at i : ℕ) → length octets ≤ i → Fed octets h₀ h area at i

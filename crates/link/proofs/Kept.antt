@@ -1,12 +1,12 @@
 -- What the calls keep: refusals, the wipe, opening, handing back.
 use Prim.Native.Nat.{ℕ, ◌*◌, ◌<◌}
 use mathlib.Core.Path.{◌≡◌, refl, sym, ap, ◌∙◌}
-use mathlib.Core.Bool.{Bool, true, false}
+use mathlib.Core.Bool.{true, false}
 use mathlib.Core.List.{List}
 use native.Mathlib.Omega.{arith}
-use lib.Dec.{eqb}
 use lib.ListN.{length, length-replicate}
 use borrow.Author.Tests.{eq-eqb, lt-leb, eqb-true}
+use Rattle.std.proofs.lemmas.Bool.{cond_both}
 use Rattle.bits.specs.Format.{basic}
 use Rattle.memory.specs.declared.Status.TheVariants as statuses
 use Rattle.memory.specs.Lent.{empty_descriptors, status_of, with_slot, with_descriptor, empty_slot, status_word}
@@ -45,14 +45,7 @@ wipe-leaves-nothing octets words = (refl, wiped-zeros octets, wiped-zeros words)
 -- an answer of 0 is that of a call with no fault
 pub open-number : (l : Link) (s : Settings) (pool descriptors : List ℕ) → (open_answer l s pool descriptors).number ≡ open_number l s pool descriptors
 unfolding open_answer
-open-number l s pool descriptors = go (eqb n 0) refl
-  where
-    n : ℕ
-    n = open_number l s pool descriptors
-
-    go : (b : Bool) → eqb n 0 ≡ b → (open_answer l s pool descriptors).number ≡ n
-    go true e = rw e (sym (eqb-true n 0 e))
-    go false e = rw e
+open-number l s pool descriptors = cond_both _ _ _ (λ (o : Outcome). o.number ≡ open_number l s pool descriptors) (λ e. sym (eqb-true _ 0 e)) (λ e. refl)
 
 pub opens-exactly : OpensExactly
 unfolding open_number first
@@ -71,14 +64,7 @@ opened l s pool descriptors e = done _ _ _ (sym (open-number l s pool descriptor
 
 pub hand-number : (l : Link) (pool descriptors : List ℕ) (slot : ℕ) → (hand_answer l pool descriptors slot).number ≡ read_number l pool descriptors slot
 unfolding hand_answer
-hand-number l pool descriptors slot = go (eqb n 0) refl
-  where
-    n : ℕ
-    n = read_number l pool descriptors slot
-
-    go : (b : Bool) → eqb n 0 ≡ b → (hand_answer l pool descriptors slot).number ≡ n
-    go true e = rw e (sym (eqb-true n 0 e))
-    go false e = rw e
+hand-number l pool descriptors slot = cond_both _ _ _ (λ (o : Outcome). o.number ≡ read_number l pool descriptors slot) (λ e. sym (eqb-true _ 0 e)) (λ e. refl)
 
 emptied : length (empty_slot basic) ≡ 280
 unfolding empty_slot

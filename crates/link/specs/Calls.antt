@@ -1,6 +1,6 @@
 -- What each call answers, and what stands in the lent memory then. "A refusal returns its number, the link as given and zero for
 -- every other number of the answer; a refused read returns an empty part. No lent octet or word changes."
-use Rattle.std.specs.Prelude.{ℕ, true, false, cond, List, [], eqb, take}
+use Rattle.std.specs.Prelude.{ℕ, true, false, cond, List, [], eqb, take, Result, Ok, Err}
 use Rattle.std.specs.Int.Bits.{bit_and, bit_xor}
 use Rattle.bits.specs.Format.{basic}
 use Rattle.memory.specs.declared.Status.TheVariants as statuses
@@ -9,8 +9,9 @@ use Rattle.board.specs.declared.Settings.{Settings}
 use Rattle.board.specs.declared.Link.{Link}
 use Rattle.board.specs.Link.{new_link, new_units}
 use Rattle.board.specs.With.{with_supervision}
-use Rattle.link.specs.declared.Answer.{Answer}
-use Rattle.link.specs.Commands.{command_of, obeyed}
+use Rattle.link.specs.declared.Refusal.{Refusal}
+use Rattle.link.specs.Answer.{Answer, refusal_number}
+use Rattle.link.specs.Commands.{command_of, obeying}
 use Rattle.link.specs.Refusals.{open_number, command_number, clear_number, read_number}
 
 -- the answer of a call that is lent pool and descriptors
@@ -22,6 +23,11 @@ pub record Outcome : Type 0 where
 
 abbrev pub outcome : ℕ → Link → List ℕ → List ℕ → Outcome
 outcome n l pool descriptors = record { number = n; link = l; pool = pool; descriptors = descriptors }
+
+-- what the code gives on link l, and pool and descriptors as they stand then
+abbrev pub outcome_of : Link → Result Link Refusal → List ℕ → List ℕ → Outcome
+outcome_of l (Ok after) pool descriptors = outcome 0 after pool descriptors
+outcome_of l (Err refusal) pool descriptors = outcome (refusal_number refusal) l pool descriptors
 
 -- "monitor off, all counts zero; N's counter is N, the next slot 0, the settings those given, no event bit set, octet counting off,
 -- the link open, the rest as in the new link"
@@ -55,7 +61,7 @@ wipe_answer octets words = record { link = new_link; octets = wiped octets; word
 unfoldable pub command_answer : Link → ℕ → Answer
 command_answer l command =
     cond (eqb (command_number l command) 0)
-    (record { number = 0; link = obeyed (command_of command) l })
+    (record { number = 0; link = obeying (command_of command) l })
     (record { number = command_number l command; link = l })
 
 -- "A further call clears chosen event bits and never gives another refusal than 1 and 2."

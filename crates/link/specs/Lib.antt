@@ -1,4 +1,5 @@
 -- The calls of a host.
+pub mod Answer
 pub mod Commands
 pub mod Refusals
 pub mod Tables

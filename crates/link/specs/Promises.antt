@@ -10,7 +10,7 @@ use Rattle.link.specs.Refusals.{Fault, fault, first, fits_memory, open_faults, c
 use Rattle.link.specs.Tables.{none_found, rising}
 use Rattle.link.specs.Calls.{outcome, open_answer, wipe_answer, command_answer, read_part, hand_answer, clear_answer}
 
--- D1.2: in a table of rising numbers a fault's number is given exactly if that fault is found and none before it,
+-- In a table of rising numbers a fault's number is given exactly if that fault is found and none before it,
 abbrev pub FirstFault : Type 0
 FirstFault =
     (before after : List Fault) (found : Bool) (n : ℕ) → rising 0 (before ++ (fault found n ∷ after)) ≡ true
@@ -29,7 +29,7 @@ TablesRise =
     × (rising 0 (clear_faults l) ≡ true)
     × (rising 0 (read_faults l pool descriptors slot) ≡ true)
 
--- D1.2: a refused call gives back the link and every lent list as they were; a refused read gives an empty part.
+-- A refused call gives back the link and every lent list as they were; a refused read gives an empty part.
 abbrev pub RefusedOpen : Type 0
 RefusedOpen =
     (l : Link) (s : Settings) (pool descriptors : List ℕ) → (open_number l s pool descriptors ≡ 0 → ⊥)
@@ -53,13 +53,13 @@ RefusedHandBack =
     (l : Link) (pool descriptors : List ℕ) (slot : ℕ) → (read_number l pool descriptors slot ≡ 0 → ⊥)
     → hand_answer l pool descriptors slot ≡ outcome (read_number l pool descriptors slot) l pool descriptors
 
--- D1.3: after the wipe each lent octet and word is zero and the link is the new one.
+-- After the wipe each lent octet and word is zero and the link is the new one.
 abbrev pub WipeLeavesNothing : Type 0
 WipeLeavesNothing =
     (octets words : List ℕ)
     → ((wipe_answer octets words).link ≡ new_link) × (zeros (wipe_answer octets words).octets ≡ true) × (zeros (wipe_answer octets words).words ≡ true)
 
--- D1.4: a booking opens exactly if the link is the new one, the settings are in range, the memory is that of its slots and all of it is zero.
+-- A booking opens exactly if the link is the new one, the settings are in range, the memory is that of its slots and all of it is zero.
 abbrev pub OpensExactly : Type 0
 OpensExactly =
     (l : Link) (s : Settings) (pool descriptors : List ℕ)

@@ -3,71 +3,74 @@
 #![tactic(auto)]
 
 ghost use Rattle.std.specs.Prelude.{◌≡◌};
-ghost use Rattle.board.specs.Malformed as Malformed;
+ghost use Rattle.link.specs.Answer.{number_of};
 ghost use Rattle.link.specs.Refusals.{open_number};
-ghost use Rattle.link.specs.Calls.{opened_link, open_answer, wipe_answer};
+ghost use Rattle.link.specs.Calls.{outcome_of, opened_link, open_answer, wipe_answer};
 
-use board::{Counting, Link, Settings};
-use link::Answer;
+use board::{Counting, Link, Settings, UnitState};
+use link::Refusal;
 
-// The number that open answers on a link that is malformed or not, and open or not.
-fn open_number(
-    malformed: bool,
-    opened: bool,
+// The faults that open finds on a link, settings and memory.
+#[tactic(auto, unfolding(link::specs::Refusals::open_number, link::specs::Refusals::first))]
+fn check_opening(
+    link: &Link,
     settings: Settings,
     pool: &[u8],
     descriptors: &[u16],
-) -> u8
-    ensures { (l : Link) → malformed ≡ Malformed.malformed l → opened ≡ l.opened → result ≡ open_number l settings pool.now descriptors.now }
+) -> Result<(), Refusal>
+    ensures { number_of result ≡ open_number link.now settings pool.now descriptors.now }
 {
-    let range = wellformed::in_range(settings);
-    let fits = link::fits_memory(settings.k, pool, descriptors);
-    let octets = memory::no_octet(pool);
-    let words = memory::no_word(descriptors);
-    let six = link::refuse(!(octets & words), 6, 0);
-    let five = link::refuse(!fits, 5, six);
-    let four = link::refuse(!range, 4, five);
-    let three = link::refuse(opened, 3, four);
-    link::refuse(malformed, 1, three)
+    if wellformed::is_malformed(link) {
+        return Err(Refusal::Malformed);
+    }
+    if link.opened {
+        return Err(Refusal::AlreadyOpen);
+    }
+    if !wellformed::in_range(settings) {
+        return Err(Refusal::SettingOutOfRange);
+    }
+    if !link::fits_memory(settings.k, pool, descriptors) {
+        return Err(Refusal::WrongMemory);
+    }
+    if !memory::no_octet(pool) || !memory::no_word(descriptors) {
+        return Err(Refusal::NotZero);
+    }
+    Ok(())
 }
 
 // The link of a new booking.
 fn opened_link(settings: Settings) -> Link
     ensures { result ≡ opened_link settings }
 {
-    let mut l = Link::new();
-    l.opened = true;
-    l.settings = settings;
+    let new = Link::new();
     let counting = Counting {
         on: false,
         left: settings.n,
     };
-    let mut u = l.units;
-    u.counting = counting;
-    l.units = u;
-    l
+    Link {
+        opened: true,
+        settings,
+        units: UnitState {
+            counting,
+            ..new.units
+        },
+        ..new
+    }
 }
 
 // Opens a booking over memory that is wiped.
-pub fn open(link: Link, settings: Settings, pool: &mut [u8], descriptors: &mut [u16]) -> Answer
-    ensures { record { number = result.number; link = result.link; pool = pool.new; descriptors = descriptors.new } ≡ open_answer link settings pool.old descriptors.old }
+#[tactic(auto, unfolding(link::specs::Calls::open_answer, link::specs::Refusals::open_number, link::specs::Refusals::first), using(link::proofs::Answers::open_words))]
+pub fn open(
+    link: Link,
+    settings: Settings,
+    pool: &mut [u8],
+    descriptors: &mut [u16],
+) -> Result<Link, Refusal>
+    ensures { outcome_of link result pool.new descriptors.new ≡ open_answer link settings pool.old descriptors.old }
 {
-    let malformed = wellformed::is_malformed(
-        link.opened,
-        link.settings,
-        link.line.state,
-        &link.line.area,
-        link.units,
-        link.supervision,
-        link.transmitter,
-    );
-    let n = open_number(malformed, link.opened, settings, &*pool, &*descriptors);
-    let mut l = link;
-    if n == 0 {
-        memory::mark_empty(descriptors, settings.k);
-        l = opened_link(settings);
-    }
-    Answer { number: n, link: l }
+    check_opening(&link, settings, pool, descriptors)?;
+    memory::mark_empty(descriptors, settings.k);
+    Ok(opened_link(settings))
 }
 
 // Zeroes all of both areas, whatever they are, and gives the new link. It is never refused.

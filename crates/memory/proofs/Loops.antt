@@ -1,4 +1,4 @@
--- The two shapes of loop, over any list: the elements are or-ed, or each is written with a target's element.
+-- Over any list: all its elements are or-ed, or each is written with a target's element.
 use Prim.Native.Nat.{ℕ, suc, ◌+◌, ◌<◌, ◌≤◌}
 use mathlib.Core.Path.{◌≡◌, refl, sym, ◌∙◌}
 use mathlib.Core.Bool.{Bool, true, false, ◌&&◌, and-true, and_assoc}
@@ -10,6 +10,7 @@ use lib.Bits.{bit_or, or_add_and, and_le_l, and_le_r}
 use lib.Dec.{eqb}
 use lib.ListN.{length, get_or, take, drop, set, length-set, drop_of_length-le}
 use lib.Seq.{drop-cons, take-suc, take_all, set_at, length-take-le}
+use Rattle.std.specs.List.{fold}
 use Rattle.memory.specs.Lent.{zeros}
 
 -- ---- elements or-ed
@@ -21,16 +22,10 @@ or-zero a b = go (eqb a 0) (eqb b 0) refl refl
     go true false p q = ne_eqb (bit_or a b) 0 (λ z. eqb-false b 0 q (omega (arith, or_add_and a b, and_le_l a b)))
     go false y p q = ne_eqb (bit_or a b) 0 (λ z. eqb-false a 0 p (omega (arith, or_add_and a b, and_le_r a b)))
 
--- the or of the elements looked at and the rest decide together: the next element goes over from one to the other
-module _ (l : List ℕ) (i all : ℕ) where
-  pub or-next : i < length l → eqb (bit_or all (get_or l i 0)) 0 && zeros (drop (i + 1) l) ≡ eqb all 0 && zeros (drop i l)
-  unfolding zeros
-  or-next h =
-      rw (or-zero all (get_or l i 0), and_assoc (eqb all 0) (eqb (get_or l i 0) 0) (zeros (drop (i + 1) l)), add-one, drop-cons l i 0 h)
-
-  pub or-ends : length l ≤ i → eqb all 0 ≡ eqb all 0 && zeros (drop i l)
-  unfolding zeros
-  or-ends h = rw (drop_of_length-le l h, and-true (eqb all 0))
+pub or_fold : (a : ℕ) (xs : List ℕ) → eqb (fold bit_or a xs) 0 ≡ eqb a 0 && zeros xs
+unfolding zeros
+or_fold a [] = sym (and-true (eqb a 0))
+or_fold a (x ∷ xs) = or_fold (bit_or a x) xs ∙ rw (or-zero a x, and_assoc (eqb a 0) (eqb x 0) (zeros xs))
 
 -- ---- i elements of the target t written over those of d, which gives s
 pub record Written (t d s : List ℕ) (i : ℕ) : Type 0 where

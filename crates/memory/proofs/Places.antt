@@ -1,45 +1,40 @@
 -- What stands at each place of what the loops write, and the code's reckoning of places against the definitions'.
-use Prim.Native.Nat.{ℕ, ◌+◌, ◌-◌, ◌*◌, ◌/◌, ◌%◌, ◌<◌, ◌≤◌}
+use Prim.Native.Nat.{ℕ, min, ◌+◌, ◌-◌, ◌*◌, ◌<◌, ◌≤◌}
 use mathlib.Core.Path.{◌≡◌, sym, ap, ◌∙◌}
 use mathlib.Core.List.{List, ◌++◌, append-nil}
-use native.Mathlib.Nat.{mul_comm}
-use native.Mathlib.Decide.{dec_lt}
+use native.Mathlib.Decide.{dec_le}
 use native.Mathlib.Omega.{arith}
 use borrow.Rule.Slice.PartMut.{mid_of, put_mid, Post-is, mid_len}
-use lib.ListN.{length, get_or, drop, set, replicate, length-append, length-drop, length-replicate, drop_of_length-le, get_or-eq_default, get_or-replicate}
-use lib.Seq.{take-append_seam}
+use lib.ListN.{length, take, drop, replicate, length-append, length-drop, drop_of_length-le}
+use lib.Seq.{take-append_seam, take_all}
 use Rattle.bits.specs.Format.{basic}
 use Rattle.memory.specs.declared.Status.TheVariants.{Empty}
 use Rattle.memory.specs.Lent.{status_word, empty_descriptors, with_slot, with_descriptor, filled, empty_slot, wiped}
-use Rattle.memory.proofs.Slots.{empty-each}
+use Rattle.memory.proofs.Slots.{empty-length, empty-each}
+use Rattle.memory.proofs.Loops.{Written, write-more}
 
--- past the end stands 0
-pub past_end : (l : List ℕ) (i : ℕ) → length l ≤ i → 0 ≡ get_or l i 0
-past_end l i h = sym (get_or-eq_default l 0 h)
-
--- ---- zeros
-pub wiped-length : (l : List ℕ) → length (wiped l) ≡ length l
-unfolding wiped
-wiped-length l = length-replicate (length l) 0
-
-pub wiped-at : (l : List ℕ) (i : ℕ) → 0 ≡ get_or (wiped l) i 0
-unfolding wiped
-wiped-at l i =
-    elim (dec_lt i (length l)) [
-      | yes h ↦ sym (get_or-replicate (length l) i 0 0 h)
-      | no h ↦ past_end (replicate (length l) 0) i (omega (arith, length-replicate {A = ℕ} (length l) 0))
+-- ---- what stands from a place on
+pub from-on : (l : List ℕ) (from m : ℕ) → m ≡ min from (length l) → take (length l - m) (drop m l) ≡ drop from l
+from-on l from m e =
+    elim (dec_le from (length l)) [
+      | yes h ↦
+          let k : m ≡ from = omega arith in
+          take_all (length l - m) (drop m l) (omega (arith, length-drop m l)) ∙ ap (λ (n : ℕ). drop n l) k
+      | no h ↦
+          take_all (length l - m) (drop m l) (omega (arith, length-drop m l)) ∙ drop_of_length-le l {i = m} (omega arith) ∙ sym (drop_of_length-le l {i = from} (omega arith))
     ]
 
--- ---- the descriptors of empty slots: status at the even places, length at the others
-pub even-word : (i k : ℕ) → i % 2 ≡ 0 → i < 2 * k → status_word Empty ≡ get_or (empty_descriptors k) i 0
-even-word i k e h =
-    let at : i ≡ 2 * (i / 2) = omega arith in
-    rw at (sym (empty-each k (i / 2) (omega arith)).0)
-
-pub odd-word : (i k : ℕ) → (i % 2 ≡ 0 → ⊥) → i < 2 * k → 0 ≡ get_or (empty_descriptors k) i 0
-odd-word i k e h =
-    let at : i ≡ 2 * (i / 2) + 1 = omega arith in
-    rw at (sym (empty-each k (i / 2) (omega arith)).1)
+-- ---- one more slot marked empty
+pub mark-more : {k i : ℕ} {d s t : List ℕ} → Written (empty_descriptors k) d s (2 * i) → i < k → t ≡ with_descriptor s i (status_word Empty) 0
+    → Written (empty_descriptors k) d t (2 * (i + 1))
+unfolding with_descriptor
+mark-more {k} {i} {d} {s} {t} w h e =
+    let l = empty-length k in
+    let v = empty-each k i h in
+    let two : 2 * i + 1 + 1 ≡ 2 * (i + 1) = omega arith in
+    let w1 = write-more w {v = status_word Empty} (omega (arith, w.long, w.sized, l)) (sym v.0) in
+    let w2 = write-more w1 {v = 0} (omega (arith, w1.long, w.sized, l)) (sym v.1) in
+    rw (e, ← two) w2
 
 -- ---- a unit put at the front of a slot, then all behind it wiped
 pub fill-rest : (unit slot : List ℕ) {front rest : List ℕ} → length slot ≡ 280 → length unit ≤ 280 → front ≡ unit
@@ -66,8 +61,3 @@ module _ (pool : List ℕ) (s from : ℕ) (at : from ≡ 280 * s) where
 pub wiped-slot : (l : List ℕ) → length l ≡ 280 → wiped l ≡ empty_slot basic
 unfolding wiped empty_slot
 wiped-slot l e = ap (λ (n : ℕ). replicate {A = ℕ} n 0) e
-
--- ---- a slot's two words
-pub put-words : (d : List ℕ) (s status count : ℕ) → set (set d (s * 2) status) (s * 2 + 1) count ≡ with_descriptor d s status count
-unfolding with_descriptor
-put-words d s status count = rw (mul_comm s 2)

@@ -12,7 +12,7 @@ pub const SLOT: usize = 280;
 pub const STATUS_EMPTY: u16 = 32768;
 
 // What a slot holds: nothing, a good unit, or one with an error.
-#[derive(Clone, Copy)]
+#[derive(Clone, Copy, PartialEq, Eq)]
 pub enum Status {
     Empty,
     Good,
@@ -20,17 +20,12 @@ pub enum Status {
     NotWhole,
 }
 
-// All octets from a place on, or-ed: 0 if all are zero. A loop without an exit compiles to many octets a step.
+// All octets from a place on, or-ed: 0 if all are zero. Without an exit it compiles to many octets a step.
 pub fn or_from(octets: &[u8], from: usize) -> u8
     ensures { eqb result 0 ≡ zeros (drop from octets.now) }
 {
-    let mut all: u8 = 0;
-    let mut i = from;
-    while i < octets.len() {
-        all = all | octets[i];
-        i += 1;
-    }
-    all
+    let rest = &octets[from.min(octets.len())..];
+    rest.iter().fold(0, |all, octet| all | *octet)
 }
 
 // Whether every octet is zero.
@@ -40,46 +35,34 @@ pub fn no_octet(octets: &[u8]) -> bool
     or_from(octets, 0) == 0
 }
 
-// Whether every word is zero.
+// Whether every word is zero. Octets and words have a function each: it is one line, and a trait for both would be longer.
 pub fn no_word(words: &[u16]) -> bool
     ensures { result ≡ zeros words.now }
 {
-    let mut all: u16 = 0;
-    let mut i: usize = 0;
-    while i < words.len() {
-        all = all | words[i];
-        i += 1;
-    }
-    all == 0
+    words.iter().fold(0, |all, word| all | *word) == 0
 }
 
 // Zeroes all octets.
+#[tactic(auto, unfolding(crate::specs::Lent::wiped))]
 pub fn wipe_octets(octets: &mut [u8])
     ensures { octets.new ≡ wiped octets.old }
 {
-    let mut i: usize = 0;
-    while i < octets.len() {
-        octets[i] = 0;
-        i += 1;
-    }
+    octets.fill(0);
 }
 
-// Zeroes all words.
+// Zeroes all words, as `wipe_octets` does octets: one line each.
+#[tactic(auto, unfolding(crate::specs::Lent::wiped))]
 pub fn wipe_words(words: &mut [u16])
     ensures { words.new ≡ wiped words.old }
 {
-    let mut i: usize = 0;
-    while i < words.len() {
-        words[i] = 0;
-        i += 1;
-    }
+    words.fill(0);
 }
 
 // The word at a place, and 0 past the end.
 pub fn word_at(words: &[u16], at: usize) -> u16
     ensures { result ≡ get_or words.now at 0 }
 {
-    if at < words.len() { words[at] } else { 0 }
+    words.get(at).copied().unwrap_or(0)
 }
 
 // Marks all k slots empty, with length 0.
@@ -87,13 +70,15 @@ pub fn mark_empty(descriptors: &mut [u16], k: u16)
     requires { length descriptors.old ≡ 2 * k }
     ensures { descriptors.new ≡ empty_descriptors k }
 {
-    let mut i: usize = 0;
-    while i < descriptors.len() {
-        descriptors[i] = empty_word(i);
-        i += 1;
+    for each in 0..k {
+        describe(descriptors, each, STATUS_EMPTY, 0);
     }
 }
 
+// The room of a slot in pool and descriptors is each function's `requires`: how many slots they have is the host's, who lends both.
+
+// Fixed memory: the gathering area is lent whole, and `count` says how much of it is the unit. The status is a word: which word each Status
+// has stands with the constants of Link, above this crate.
 // Puts the first `count` octets of a gathered unit into a slot: the rest of the slot zero, the length, the status.
 fn store(
     pool: &mut [u8],
@@ -107,7 +92,7 @@ fn store(
     ensures { (pool.new ≡ with_slot basic pool.old slot (filled basic (take count area.now))) × (descriptors.new ≡ with_descriptor descriptors.old slot status count) }
 {
     let from = start_of(slot);
-    let unit = first_octets(area, count as usize);
+    let unit = first_octets(area, count);
     fill_slot(&mut pool[from..from + SLOT], unit);
     describe(descriptors, slot, status, count);
 }
@@ -140,6 +125,7 @@ pub fn release(pool: &mut [u8], descriptors: &mut [u16], slot: u16)
 }
 
 // The slot after `next`, round the ring of k slots.
+#[tactic(auto, unfolding(crate::specs::Lent::next_slot))]
 fn next_slot(k: u16, next: u16) -> u16
     requires { next < 65535 }
     ensures { result ≡ next_slot k next }
@@ -151,48 +137,25 @@ fn next_slot(k: u16, next: u16) -> u16
 fn start_of(slot: u16) -> usize
     ensures { result ≡ 280 * slot }
 {
-    slot as usize * SLOT
+    usize::from(slot) * SLOT
 }
 
 // Writes a slot's status and length.
+#[tactic(auto, unfolding(crate::specs::Lent::with_descriptor))]
 fn describe(descriptors: &mut [u16], slot: u16, status: u16, count: u16)
     requires { 2 * slot + 2 ≤ length descriptors.old }
     ensures { descriptors.new ≡ with_descriptor descriptors.old slot status count }
 {
-    let at = slot as usize * 2;
+    let at = usize::from(slot) * 2;
     descriptors[at] = status;
     descriptors[at + 1] = count;
 }
 
-// What stands at word i of the descriptors of empty slots.
-fn empty_word(i: usize) -> u16
-    ensures { (k : ℕ) → i < 2 * k → result ≡ get_or (empty_descriptors k) i 0 }
-{
-    if i % 2 == 0 { STATUS_EMPTY } else { 0 }
-}
-
 // The first `count` octets of a gathered unit's area, or all of it.
-fn first_octets(area: &[u8; 279], count: usize) -> &[u8]
+fn first_octets(area: &[u8; 279], count: u16) -> &[u8]
     ensures { (result.now ≡ take count area.now) × (length result.now ≤ 279) }
 {
-    let all: &[u8] = area;
-    if count < all.len() {
-        &all[..count]
-    } else {
-        all
-    }
-}
-
-// Copies all octets to as many others.
-fn copy_octets(to: &mut [u8], from: &[u8])
-    requires { length to.old ≡ length from.now }
-    ensures { to.new ≡ from.now }
-{
-    let mut i: usize = 0;
-    while i < from.len() {
-        to[i] = from[i];
-        i += 1;
-    }
+    &area[..usize::from(count).min(area.len())]
 }
 
 // Writes a unit into a slot, all 280 octets of it.
@@ -201,6 +164,6 @@ fn fill_slot(slot: &mut [u8], unit: &[u8])
     ensures { slot.new ≡ filled basic unit.now }
 {
     let n = unit.len();
-    copy_octets(&mut slot[..n], unit);
+    slot[..n].copy_from_slice(unit);
     wipe_octets(&mut slot[n..]);
 }

@@ -12,8 +12,8 @@ use borrow.Author.Tests.{leb-true, leb-false, eqb-true, eqb-false, ne_eqb}
 use Rattle.monitor.specs.ErrorMonitors.{ErrorMonitor, suerm, aerm, mode_of, alarm_of, threshold_of, rule_of}
 use Rattle.bits.specs.Octets.{worth}
 use Rattle.monitor.specs.declared.Mode.TheVariants.{Idle}
+use Rattle.std.specs.Prelude.{Option, Some, None}
 use Rattle.monitor.specs.declared.Alarm.{Alarm}
-use Rattle.monitor.specs.declared.Alarm.TheVariants.{Nothing}
 use Rattle.monitor.specs.declared.Monitor.{Monitor}
 use Rattle.monitor.specs.declared.Limits.{Limits}
 use Rattle.monitor.specs.declared.Stepped.{Stepped}
@@ -73,7 +73,7 @@ step-answer aerm l m e q = step-aligning l m e q
 
 -- where the threshold_of is found, the monitor alarms and goes idle
 idles : (x : ErrorMonitor) (l : Limits) (c n : ℕ) → leb (threshold_of x l) c ≡ true
-    → ((answer x l c n).monitor.mode ≡ Idle) × ((answer x l c n).alarm ≡ alarm_of x)
+    → ((answer x l c n).monitor.mode ≡ Idle) × ((answer x l c n).alarm ≡ Some (alarm_of x))
 idles suerm l c n q = rw q (refl, refl)
 idles aerm l c n q = rw q (refl, refl)
 
@@ -84,7 +84,7 @@ module _ (l : Limits) (h : List Bool) (m : Monitor) (e : Bool) where
   test aerm r = tracks-test l.a alignments h m.count e r.tracks
 
   abbrev Onward : ErrorMonitor → Stepped → Type 0
-  Onward x s = Runs x l (snoc h e) s.monitor × (s.alarm ≡ Nothing)
+  Onward x s = Runs x l (snoc h e) s.monitor × (s.alarm ≡ None)
 
   -- where the threshold_of is not found, the monitor runs on
   runs_on : (x : ErrorMonitor) → Runs x l h m → leb (threshold_of x l) (added m e) ≡ false → Onward x (answer x l (added m e) m.number)
@@ -109,16 +109,15 @@ module _ (l : Limits) (h : List Bool) (m : Monitor) (e : Bool) where
           rw (q, p) (record { mode = refl; tracks = rw k at next; number = rw (length-snoc h e) (omega (arith, r.number)) }, refl)
 
 -- ---- One event keeps the running form.
-differ : (x : ErrorMonitor) → ¬ (Nothing ≡ alarm_of x)
-differ suerm q = let y : ◌≡◌ {A = ℕ} 0 1 = cc in omega arith
-differ aerm q = let y : ◌≡◌ {A = ℕ} 0 1 = cc in omega arith
+differ : (x : ErrorMonitor) → ¬ (None ≡ Some (alarm_of x))
+differ x q = cc
 
 -- what an event leaves follows, the alarm comes exactly where the law says, and no other alarm comes
 abbrev Kept : ErrorMonitor → Limits → List Bool → Bool → Stepped → Type 0
 Kept x l h e s =
     Follows x l (snoc h e) s.monitor
-    × ((s.alarm ≡ alarm_of x) ↔ AlarmAt x l (snoc h e) (suc (length h)))
-    × ((s.alarm ≡ Nothing) ⊎ (s.alarm ≡ alarm_of x))
+    × ((s.alarm ≡ Some (alarm_of x)) ↔ AlarmAt x l (snoc h e) (suc (length h)))
+    × ((s.alarm ≡ None) ⊎ (s.alarm ≡ Some (alarm_of x)))
 
 module _ (x : ErrorMonitor) (l : Limits) (h : List Bool) (m : Monitor) (e : Bool) where
   kept-runs : Runs x l h m → Kept x l h e (step l m e)
@@ -158,10 +157,10 @@ module _ (x : ErrorMonitor) (l : Limits) (h : List Bool) (m : Monitor) (e : Bool
   pub follows_next : Follows x l h m → Follows x l (snoc h e) (step l m e).monitor
   follows_next f = (kept f).0
 
-  pub follows-alarm : Follows x l h m → ((step l m e).alarm ≡ alarm_of x) ↔ AlarmAt x l (snoc h e) (suc (length h))
+  pub follows-alarm : Follows x l h m → ((step l m e).alarm ≡ Some (alarm_of x)) ↔ AlarmAt x l (snoc h e) (suc (length h))
   follows-alarm f = (kept f).1
 
-  pub follows-only : Follows x l h m → ((step l m e).alarm ≡ Nothing) ⊎ ((step l m e).alarm ≡ alarm_of x)
+  pub follows-only : Follows x l h m → ((step l m e).alarm ≡ None) ⊎ ((step l m e).alarm ≡ Some (alarm_of x))
   follows-only f = (kept f).2
 
 -- ---- Any list of events.
@@ -178,7 +177,7 @@ module _ (x : ErrorMonitor) (l : Limits) where
 
   -- the alarm comes at an event exactly if the law names that event
   pub alarm-exactly : (g h : List Bool) (m : Monitor) (n : ℕ) → Follows x l h m
-      → (get_or (alarms l m g) n Nothing ≡ alarm_of x) ↔ ((n < length g) × AlarmAt x l (h ++ g) (suc (length h + n)))
+      → (get_or (alarms l m g) n None ≡ Some (alarm_of x)) ↔ ((n < length g) × AlarmAt x l (h ++ g) (suc (length h + n)))
   unfolding alarms
   alarm-exactly [] h m n f = (λ q. absurd (differ x q), λ w. absurd (omega (arith, w.0)))
   alarm-exactly (e ∷ g) h m zero f =
@@ -196,14 +195,14 @@ module _ (x : ErrorMonitor) (l : Limits) where
 
   -- and no other alarm comes
   pub alarm-only : (g h : List Bool) (m : Monitor) (n : ℕ) → Follows x l h m
-      → (get_or (alarms l m g) n Nothing ≡ Nothing) ⊎ (get_or (alarms l m g) n Nothing ≡ alarm_of x)
+      → (get_or (alarms l m g) n None ≡ None) ⊎ (get_or (alarms l m g) n None ≡ Some (alarm_of x))
   unfolding alarms
   alarm-only [] h m n f = inl refl
   alarm-only (e ∷ g) h m zero f = follows-only x l h m e f
   alarm-only (e ∷ g) h m (suc n) f = alarm-only g (snoc h e) (step l m e).monitor n (follows_next x l h m e f)
 
   -- from a start, events counting from 1
-  from_start : (h : List Bool) (n : ℕ) → (alarm_at l (mode_of x) h n ≡ alarm_of x) ↔ ((n < length h) × AlarmAt x l h (suc n))
+  from_start : (h : List Bool) (n : ℕ) → (alarm_at l (mode_of x) h n ≡ Some (alarm_of x)) ↔ ((n < length h) × AlarmAt x l h (suc n))
   from_start h n = rw zero-add at (alarm-exactly h [] (started (mode_of x)) n (follows-start x l))
 
 -- ---- The two alarms.
@@ -218,11 +217,11 @@ abbrev other : ErrorMonitor → ErrorMonitor
 other suerm = aerm
 other aerm = suerm
 
-apart : (x : ErrorMonitor) → ¬ (alarm_of x ≡ alarm_of (other x))
-apart suerm q = let y : ◌≡◌ {A = ℕ} 0 1 = cc in omega arith
-apart aerm q = let y : ◌≡◌ {A = ℕ} 0 1 = cc in omega arith
+apart : (x : ErrorMonitor) → ¬ (Some (alarm_of x) ≡ Some (alarm_of (other x)))
+apart suerm q = cc
+apart aerm q = cc
 
-never_other : (x : ErrorMonitor) (l : Limits) (h : List Bool) (n : ℕ) → ¬ (alarm_at l (mode_of x) h n ≡ alarm_of (other x))
+never_other : (x : ErrorMonitor) (l : Limits) (h : List Bool) (n : ℕ) → ¬ (alarm_at l (mode_of x) h n ≡ Some (alarm_of (other x)))
 never_other x l h n q =
     ⊎_elim (λ r. differ (other x) (sym r ∙ q)) (λ r. apart x (sym r ∙ q))
     (alarm-only x l h [] (started (mode_of x)) n (follows-start x l))
@@ -239,4 +238,4 @@ unfolding monitor_after alarms
 off-or-idle-stays l m [] q = (refl, refl)
 off-or-idle-stays l m (e ∷ h) q =
     let i = off-or-idle-stays l m h q in
-    rw (step-off-or-idle l m e q) (i.0, ap (λ (a : List Alarm). Nothing ∷ a) i.1)
+    rw (step-off-or-idle l m e q) (i.0, ap (λ (a : List (Option Alarm)). None ∷ a) i.1)

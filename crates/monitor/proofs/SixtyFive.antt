@@ -7,6 +7,7 @@ use native.Mathlib.Decide.{dec_le}
 use native.Mathlib.Omega.{arith}
 use lib.ListN.{length, get_or-eq_default}
 use Rattle.monitor.specs.declared.Mode.TheVariants.{Failure}
+use Rattle.std.specs.Prelude.{Some}
 use Rattle.monitor.specs.declared.Alarm.TheVariants.{Suer}
 use Rattle.monitor.specs.Monitor.{step}
 use Rattle.monitor.specs.History.{alarms}
@@ -38,13 +39,13 @@ within h n q = go (dec_le (length h) n)
   where
     go : Dec (length h ≤ n) → n < length h
     go (no b) = omega arith
-    go (yes b) = let d = get_or-eq_default h false {n = n} b in let y : ◌≡◌ {A = ℕ} 0 1 = cc in absurd (omega arith)
+    go (yes b) = let d = get_or-eq_default h false {n = n} b in absurd (cc)
 
 pub sixty-five-alarm : SixtyFiveAlarm
 sixty-five-alarm A h i all = let w = sixty-five h i all in go w.0 w.1 w.2
   where
     go : (m : ℕ) → m ≤ i + 65 → First 64 (failures 256) h m
-        → (n : ℕ) × (n < i + 65) × (alarm_at (limits_of 64 256 A) Failure h n ≡ Suer)
+        → (n : ℕ) × (n < i + 65) × (alarm_at (limits_of 64 256 A) Failure h n ≡ Some Suer)
     go zero b f = absurd (omega (arith, f.reaches.from_one, f.reaches.ends_at))
     go (suc n) b f =
         let long = within h (i + 64) (all (suc (i + 64)) (omega arith) (omega arith)) in

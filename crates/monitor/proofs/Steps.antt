@@ -5,7 +5,7 @@ use mathlib.Core.Bool.{Bool}
 use Prim.Native.Nat.{◌+◌}
 use Rattle.bits.specs.Octets.{worth}
 use Rattle.monitor.specs.declared.Mode.TheVariants.{Failure, Alignment}
-use Rattle.monitor.specs.declared.Alarm.TheVariants.{Nothing}
+use Rattle.std.specs.Prelude.{None}
 use Rattle.monitor.specs.declared.Monitor.{Monitor}
 use Rattle.monitor.specs.declared.Limits.{Limits}
 use Rattle.monitor.specs.Monitor.{gives, failing, aligning, step}
@@ -20,7 +20,7 @@ module _ (l : Limits) (m : Monitor) (e : Bool) where
   unfolding step
   step-aligning q = rw q
 
-  pub step-off-or-idle : OffOrIdle m → step l m e ≡ gives m Nothing
+  pub step-off-or-idle : OffOrIdle m → step l m e ≡ gives m None
   unfolding step
   step-off-or-idle (inl q) = rw q
   step-off-or-idle (inr q) = rw q

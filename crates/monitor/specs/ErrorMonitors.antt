@@ -1,4 +1,4 @@
--- The two error monitors that a command starts: the mode that the start sets, the alarm, and the threshold and rule of demand 3.
+-- The two error monitors that a command starts: the mode that the start sets, the alarm, and the threshold and the rule.
 use Rattle.std.specs.Prelude.{ℕ}
 use Rattle.monitor.specs.declared.Mode.{Mode}
 use Rattle.monitor.specs.declared.Mode.TheVariants.{Failure, Alignment}

@@ -1,5 +1,5 @@
 -- A monitor over events.
-use Rattle.std.specs.Prelude.{◌≡◌, ◌⊎◌, Bool, List, [], ◌∷◌}
+use Rattle.std.specs.Prelude.{◌≡◌, ◌⊎◌, Bool, List, [], ◌∷◌, Option}
 use Rattle.bits.specs.Machine.{run, outs}
 use Rattle.monitor.specs.declared.Mode.TheVariants.{Off, Idle}
 use Rattle.monitor.specs.declared.Alarm.{Alarm}
@@ -15,5 +15,5 @@ OffOrIdle m = (m.mode ≡ Off) ⊎ (m.mode ≡ Idle)
 unfoldable pub monitor_after : Limits → Monitor → List Bool → Monitor
 monitor_after l = run (λ m e. (step l m e).monitor)
 
-unfoldable pub alarms : Limits → Monitor → List Bool → List Alarm
+unfoldable pub alarms : Limits → Monitor → List Bool → List (Option Alarm)
 alarms l = outs (λ m e. (step l m e).monitor) (λ m e. (step l m e).alarm ∷ [])

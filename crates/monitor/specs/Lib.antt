@@ -1,4 +1,4 @@
--- The error monitors, demand 3's words, and what is promised.
+-- The error monitors, the words of what is promised, and what is promised.
 pub mod Monitor
 pub mod History
 pub mod Stretch

@@ -1,10 +1,10 @@
 -- What is promised of the error monitors. The proofs are in proofs/Reflected.antt, proofs/Alarms.antt, proofs/SixtyFive.antt and
 -- proofs/Cases.antt. Everywhere h is the events since a start, oldest first, each errored or not.
-use Rattle.std.specs.Prelude.{ℕ, suc, ◌+◌, ◌≤◌, ◌<◌, ◌≡◌, ◌↔◌, Bool, true, false, List, [], ◌∷◌, ◌++◌, length, get_or, replicate}
+use Rattle.std.specs.Prelude.{ℕ, suc, ◌+◌, ◌≤◌, ◌<◌, ◌≡◌, ◌↔◌, Bool, true, false, List, [], ◌∷◌, ◌++◌, length, get_or, replicate, Option, Some, None}
 use Rattle.monitor.specs.declared.Mode.{Mode}
 use Rattle.monitor.specs.declared.Mode.TheVariants.{Failure, Alignment}
 use Rattle.monitor.specs.declared.Alarm.{Alarm}
-use Rattle.monitor.specs.declared.Alarm.TheVariants.{Nothing, Suer, Aerm}
+use Rattle.monitor.specs.declared.Alarm.TheVariants.{Suer, Aerm}
 use Rattle.monitor.specs.declared.Monitor.{Monitor}
 use Rattle.monitor.specs.declared.Limits.{Limits}
 use Rattle.monitor.specs.Monitor.{started}
@@ -22,33 +22,33 @@ FirstExists = (T : ℕ) (r : Rule) (h : List Bool) (n : ℕ) → Reaches T r h n
 
 -- ---- When the alarm comes
 -- the alarm at event n + 1 since a start in this mode
-abbrev pub alarm_at : Limits → Mode → List Bool → ℕ → Alarm
-alarm_at l mode h n = get_or (alarms l (started mode) h) n Nothing
+abbrev pub alarm_at : Limits → Mode → List Bool → ℕ → Option Alarm
+alarm_at l mode h n = get_or (alarms l (started mode) h) n None
 
 -- SUER comes at an event exactly if it is the first since the start that ends a stretch which reaches T, with each D-th a decay point.
 abbrev pub SuerExactly : Type 0
 SuerExactly =
     (l : Limits) (h : List Bool) (n : ℕ)
-    → (alarm_at l Failure h n ≡ Suer) ↔ ((n < length h) × First l.t (failures l.d) h (suc n))
+    → (alarm_at l Failure h n ≡ Some Suer) ↔ ((n < length h) × First l.t (failures l.d) h (suc n))
 
 -- AERM comes likewise, with A and no decay points.
 abbrev pub AermExactly : Type 0
 AermExactly =
     (l : Limits) (h : List Bool) (n : ℕ)
-    → (alarm_at l Alignment h n ≡ Aerm) ↔ ((n < length h) × First l.a alignments h (suc n))
+    → (alarm_at l Alignment h n ≡ Some Aerm) ↔ ((n < length h) × First l.a alignments h (suc n))
 
 -- The failure monitor never raises AERM, nor the alignment monitor SUER.
 abbrev pub FailureNeverAerm : Type 0
-FailureNeverAerm = (l : Limits) (h : List Bool) (n : ℕ) → ¬ (alarm_at l Failure h n ≡ Aerm)
+FailureNeverAerm = (l : Limits) (h : List Bool) (n : ℕ) → ¬ (alarm_at l Failure h n ≡ Some Aerm)
 
 abbrev pub AlignmentNeverSuer : Type 0
-AlignmentNeverSuer = (l : Limits) (h : List Bool) (n : ℕ) → ¬ (alarm_at l Alignment h n ≡ Suer)
+AlignmentNeverSuer = (l : Limits) (h : List Bool) (n : ℕ) → ¬ (alarm_at l Alignment h n ≡ Some Suer)
 
 -- A monitor that is off or idle stays as it is and raises no alarm, whatever events come.
 abbrev pub OffOrIdleStays : Type 0
 OffOrIdleStays =
     (l : Limits) (m : Monitor) (h : List Bool) → OffOrIdle m
-    → (monitor_after l m h ≡ m) × (alarms l m h ≡ replicate (length h) Nothing)
+    → (monitor_after l m h ≡ m) × (alarms l m h ≡ replicate (length h) None)
 
 -- ---- Sixty-five errored events in a row
 abbrev pub limits_of : ℕ → ℕ → ℕ → Limits
@@ -66,29 +66,29 @@ SixtyFive = (h : List Bool) (i : ℕ) → AllErrored h i 65 → (m : ℕ) × (m 
 abbrev pub SixtyFiveAlarm : Type 0
 SixtyFiveAlarm =
     (A : ℕ) (h : List Bool) (i : ℕ) → AllErrored h i 65
-    → (n : ℕ) × (n < i + 65) × (alarm_at (limits_of 64 256 A) Failure h n ≡ Suer)
+    → (n : ℕ) × (n < i + 65) × (alarm_at (limits_of 64 256 A) Failure h n ≡ Some Suer)
 
 -- Sixty-four do not suffice: with a decay point among them they pass without an alarm.
 abbrev pub SixtyFourPass : Type 0
 SixtyFourPass =
-    (A : ℕ) → alarms (limits_of 64 256 A) (started Failure) (replicate 224 false ++ replicate 64 true) ≡ replicate 288 Nothing
+    (A : ℕ) → alarms (limits_of 64 256 A) (started Failure) (replicate 224 false ++ replicate 64 true) ≡ replicate 288 None
 
 -- ---- Proved cases
 -- "P8 row 1, all errored: alarm at event 64", and at none before. Row 1 has T = 64 and D = 256.
 abbrev pub P8 : Type 0
-P8 = (A : ℕ) → alarms (limits_of 64 256 A) (started Failure) (replicate 64 true) ≡ replicate 63 Nothing ++ (Suer ∷ [])
+P8 = (A : ℕ) → alarms (limits_of 64 256 A) (started Failure) (replicate 64 true) ≡ replicate 63 None ++ (Some Suer ∷ [])
 
 -- "P9 255 good, then errored: alarm at 320, not 319."
 abbrev pub P9 : Type 0
-P9 = (A : ℕ) → alarms (limits_of 64 256 A) (started Failure) (replicate 255 false ++ replicate 65 true) ≡ replicate 319 Nothing ++ (Suer ∷ [])
+P9 = (A : ℕ) → alarms (limits_of 64 256 A) (started Failure) (replicate 255 false ++ replicate 65 true) ≡ replicate 319 None ++ (Some Suer ∷ [])
 
 -- "P10 T = 2, D = 1: never."
 abbrev pub P10 : Type 0
-P10 = (A : ℕ) (h : List Bool) (n : ℕ) → alarm_at (limits_of 2 1 A) Failure h n ≡ Nothing
+P10 = (A : ℕ) (h : List Bool) (n : ℕ) → alarm_at (limits_of 2 1 A) Failure h n ≡ None
 
 -- "P11 T = 1: first errored event", and no other, however many good events come before it and whatever comes after.
 abbrev pub P11 : Type 0
 P11 =
     (D A k : ℕ) (rest : List Bool)
     → alarms (limits_of 1 D A) (started Failure) (replicate k false ++ (true ∷ rest))
-    ≡ replicate k Nothing ++ (Suer ∷ replicate (length rest) Nothing)
+    ≡ replicate k None ++ (Some Suer ∷ replicate (length rest) None)

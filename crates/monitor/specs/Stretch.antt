@@ -1,4 +1,4 @@
--- Demand 3's words: events since a start, stretches of them, their balance, and the first event that ends one which reaches the threshold.
+-- The words of what is promised: events since a start, stretches of them, their balance, and the first event that ends one which reaches the threshold.
 -- Said for any step up and down, so that one law serves every monitor.
 use Rattle.std.specs.Prelude.{ℕ, zero, suc, ◌+◌, ◌-◌, ◌≤◌, ◌<◌, ◌%◌, ◌≡◌, Bool, false, List, eqb, get_or}
 use Rattle.bits.specs.Octets.{worth}

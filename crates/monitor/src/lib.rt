@@ -2,12 +2,12 @@
 
 #![tactic(auto)]
 
-ghost use Rattle.std.specs.Prelude.{◌≡◌, ◌+◌, ◌-◌, ◌<◌};
+ghost use Rattle.std.specs.Prelude.{◌≡◌, ◌+◌, ◌<◌, Some, None};
 ghost use Rattle.bits.specs.Octets.{worth};
-ghost use Rattle.monitor.specs.Monitor.{started, stopped, failing, aligning, step};
+ghost use Rattle.monitor.specs.Monitor.{monitor_of, started, stopped, gives, failing, aligning, step};
 
 // Idle is where an alarm leaves a monitor; off is where it is before any start and after command 1.
-#[derive(Clone, Copy)]
+#[derive(Clone, Copy, PartialEq, Eq)]
 pub enum Mode {
     Off,
     Failure,
@@ -16,33 +16,32 @@ pub enum Mode {
 }
 
 // The count of errored events, lowered at decay points, and the event number, which is 0 again at each decay point.
-#[derive(Clone, Copy)]
+#[derive(Clone, Copy, PartialEq, Eq)]
 pub struct Monitor {
     pub mode: Mode,
     pub count: u16,
     pub number: u16,
 }
 
-// The settings T, D and A of document 01: threshold and decay of the failure monitor, threshold of the alignment monitor.
+// The settings T, D and A: threshold and decay of the failure monitor, threshold of the alignment monitor.
 #[repr(C)]
-#[derive(Clone, Copy)]
+#[derive(Clone, Copy, PartialEq, Eq)]
 pub struct Limits {
     pub t: u16,
     pub d: u16,
     pub a: u16,
 }
 
-#[derive(Clone, Copy)]
+#[derive(Clone, Copy, PartialEq, Eq)]
 pub enum Alarm {
-    Nothing,
     Suer,
     Aerm,
 }
 
-#[derive(Clone, Copy)]
+#[derive(Clone, Copy, PartialEq, Eq)]
 pub struct Stepped {
     pub monitor: Monitor,
-    pub alarm: Alarm,
+    pub alarm: Option<Alarm>,
 }
 
 impl Monitor {
@@ -73,33 +72,87 @@ impl Monitor {
     {
         Monitor {
             mode: Mode::Off,
-            count: self.count,
-            number: self.number,
+            ..self
         }
     }
 
     // One event, errored or not. The counts of a link that is not malformed are far below the bound.
+    #[tactic(auto, unfolding(crate::specs::Monitor::step))]
     pub fn step(self, limits: Limits, errored: bool) -> Stepped
         requires { (self.count < 65535) × (self.number < 65535) }
         ensures { result ≡ step limits self errored }
     {
-        let mode = self.mode;
-        match mode {
-            Mode::Failure => fail_step(
-                limits.t,
-                limits.d,
-                raised(self.count, errored),
-                self.number,
-            ),
-            Mode::Alignment => align_step(limits.a, raised(self.count, errored), self.number),
-            Mode::Off => Stepped {
-                monitor: self,
-                alarm: Alarm::Nothing,
+        match self.mode {
+            Mode::Failure => self.raised(errored).fail_step(limits),
+            Mode::Alignment => self.raised(errored).align_step(limits),
+            Mode::Off | Mode::Idle => self.goes_on(),
+        }
+    }
+
+    // An event's 1 or 0 added to the count.
+    fn raised(self, errored: bool) -> Self
+        requires { self.count < 65535 }
+        ensures { result ≡ monitor_of self.mode (self.count + worth errored) self.number }
+    {
+        Monitor {
+            count: self.count + u16::from(errored),
+            ..self
+        }
+    }
+
+    // One event in failure mode. The count has the event added; the threshold is tested before the count is lowered.
+    fn fail_step(self, limits: Limits) -> Stepped
+        requires mode { self.mode ≡ Mode.Failure }
+        requires number { self.number < 65535 }
+        ensures { result ≡ failing limits.t limits.d self.count self.number }
+    {
+        if limits.t <= self.count {
+            return self.gives(Alarm::Suer);
+        }
+        let number = self.number + 1;
+        if number == limits.d {
+            let count = self.count.saturating_sub(1);
+            return Monitor {
+                count,
+                number: 0,
+                ..self
+            }
+            .goes_on();
+        }
+        Monitor { number, ..self }.goes_on()
+    }
+
+    // One event in alignment mode. The count has the event added; it is never lowered.
+    fn align_step(self, limits: Limits) -> Stepped
+        requires { self.mode ≡ Mode.Alignment }
+        ensures { result ≡ aligning limits.a self.count self.number }
+    {
+        if limits.a <= self.count {
+            return self.gives(Alarm::Aerm);
+        }
+        self.goes_on()
+    }
+
+    // An alarm leaves the monitor idle, and both counts stay.
+    fn gives(self, alarm: Alarm) -> Stepped
+        ensures { result ≡ gives (monitor_of Mode.Idle self.count self.number) (Some alarm) }
+    {
+        Stepped {
+            monitor: Monitor {
+                mode: Mode::Idle,
+                ..self
             },
-            Mode::Idle => Stepped {
-                monitor: self,
-                alarm: Alarm::Nothing,
-            },
+            alarm: Some(alarm),
+        }
+    }
+
+    // An event without an alarm.
+    fn goes_on(self) -> Stepped
+        ensures { result ≡ gives self None }
+    {
+        Stepped {
+            monitor: self,
+            alarm: None,
         }
     }
 }
@@ -109,84 +162,8 @@ fn zeroed(mode: Mode) -> Monitor
     ensures { result ≡ started mode }
 {
     Monitor {
-        mode: mode,
+        mode,
         count: 0,
         number: 0,
-    }
-}
-
-// The count with an event's 1 or 0 added.
-fn raised(count: u16, errored: bool) -> u16
-    requires { count < 65535 }
-    ensures { result ≡ count + worth errored }
-{
-    if errored { count + 1 } else { count }
-}
-
-// The count after a decay point, not below 0.
-fn lowered(count: u16) -> u16
-    ensures { result ≡ count - 1 }
-{
-    if count == 0 { 0 } else { count - 1 }
-}
-
-// One event in failure mode. The count has the event added; the threshold is tested before the count is lowered.
-fn fail_step(t: u16, d: u16, count: u16, number: u16) -> Stepped
-    requires { number < 65535 }
-    ensures { result ≡ failing t d count number }
-{
-    if t <= count {
-        return Stepped {
-            monitor: Monitor {
-                mode: Mode::Idle,
-                count: count,
-                number: number,
-            },
-            alarm: Alarm::Suer,
-        };
-    }
-    let next = number + 1;
-    if next == d {
-        let low = lowered(count);
-        return Stepped {
-            monitor: Monitor {
-                mode: Mode::Failure,
-                count: low,
-                number: 0,
-            },
-            alarm: Alarm::Nothing,
-        };
-    }
-    Stepped {
-        monitor: Monitor {
-            mode: Mode::Failure,
-            count: count,
-            number: next,
-        },
-        alarm: Alarm::Nothing,
-    }
-}
-
-// One event in alignment mode. The count has the event added; it is never lowered.
-fn align_step(a: u16, count: u16, number: u16) -> Stepped
-    ensures { result ≡ aligning a count number }
-{
-    if a <= count {
-        return Stepped {
-            monitor: Monitor {
-                mode: Mode::Idle,
-                count: count,
-                number: number,
-            },
-            alarm: Alarm::Aerm,
-        };
-    }
-    Stepped {
-        monitor: Monitor {
-            mode: Mode::Alignment,
-            count: count,
-            number: number,
-        },
-        alarm: Alarm::Nothing,
     }
 }

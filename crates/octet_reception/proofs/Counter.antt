@@ -1,7 +1,7 @@
 -- N's counter over octets in which nothing is found: where it stands, and what happens.
 use Prim.Native.Nat.{ℕ, zero, suc, ◌+◌, ◌-◌, ◌*◌, ◌%◌, ◌≤◌, ◌<◌}
 use mathlib.Core.Path.{◌≡◌, refl, sym, ap, ap₂, ◌∙◌}
-use mathlib.Core.Bool.{Bool, true, false, cond}
+use mathlib.Core.Bool.{Bool, true, false, cond, ◌&&◌, false≢true}
 use mathlib.Core.List.{List, [], ◌∷◌, ◌++◌}
 use native.Mathlib.Nat.{mod-eq_of_lt, add-mod_left, add-zero}
 use native.Mathlib.Omega.{arith}
@@ -11,15 +11,14 @@ use lib.ListN.{length, replicate, replicate-append-replicate}
 use lib.Seq.{sets}
 use Rattle.board.specs.Limits.{record_octets, monitor_limits}
 use Rattle.board.specs.declared.Settings.{Settings}
-use Rattle.board.specs.declared.UnitState.{UnitState}
 use Rattle.records.specs.declared.Happening.{Happening}
 use Rattle.records.specs.Record.{supervision_after, records_of}
 use Rattle.units.specs.Indications.{Indication, octet_end}
 use Rattle.units.specs.Units.{UnitMemory, unit_memory, ticks, tick_of, octet_effect, effect_of, next_unit_memory, unit_memory_after, happenings}
 use Rattle.indications.specs.declared.Progress.{Progress}
-use Rattle.indications.specs.InnerWriting.{CallState, holding, indications_done, NotedAndRecorded}
+use Rattle.indications.specs.InnerWriting.{CallState, holding, indications_done, with_left, CounterMoved}
 use Rattle.indications.proofs.Recording.{indications-append}
-use Rattle.indications.proofs.Ends.{tick-way}
+use Rattle.indications.proofs.Ends.{octet-ended}
 use Rattle.reception.proofs.Octets.{happenings-five}
 use Rattle.octet_reception.specs.Counter.{wound_by}
 
@@ -88,10 +87,6 @@ module _ (n : ℕ) where
 abbrev ends : ℕ → List Indication
 ends k = replicate k octet_end
 
--- the unit state with the counter elsewhere
-abbrev pub with_left : UnitState → ℕ → UnitState
-with_left d left = record { counting = record { on = d.counting.on; left = left }; memory = d.memory; slots = d.slots; counts = d.counts }
-
 module _ (s : Settings) where
   -- only the counter moves
   counter-after : (k : ℕ) (o : UnitMemory)
@@ -131,7 +126,7 @@ module _ (s : Settings) (p : Progress) (out : List ℕ) (pool descriptors : List
   at_left left = record { units = with_left p.units left; supervision = p.supervision; count = p.count }
 
   -- octets from which nothing happens
-  pub ends-quiet : (k left : ℕ) → left ≡ wound_by s.n p.units.counting.left k → happenings s here.unit_memory (ends k) ≡ []
+  ends-quiet : (k left : ℕ) → left ≡ wound_by s.n p.units.counting.left k → happenings s here.unit_memory (ends k) ≡ []
       → holding (at_left left) pool descriptors out ≡ indications_done s here (ends k)
   unfolding indications_done supervision_after records_of
   ends-quiet k left e h =
@@ -149,15 +144,35 @@ module _ (s : Settings) (p : Progress) (out : List ℕ) (pool descriptors : List
           }
 
   -- octets of which the last brings the tick
-  pub ends-tick : (k left : ℕ) → left ≡ wound_by s.n p.units.counting.left k → k ≡ p.units.counting.left → 1 ≤ p.units.counting.left
-      → p.units.counting.on ≡ true → (h : Happening) → h ≡ tick_of p.units.counts.good → (r : Progress) (out' : List ℕ)
-      → NotedAndRecorded s (record { units = with_left p.units left; happening = h }) p.supervision p.count out r out'
+  ends-tick : (k left : ℕ) → left ≡ wound_by s.n p.units.counting.left k → k ≡ p.units.counting.left → 1 ≤ p.units.counting.left
+      → p.units.counting.on ≡ true → (r : Progress) (out' : List ℕ) → CounterMoved s p left true out r out'
       → holding r pool descriptors out' ≡ indications_done s here (ends k)
-  ends-tick zero left e i l on h eh r out' q = absurd (omega arith)
-  ends-tick (suc k) left e i l on h eh r out' q =
+  ends-tick zero left e i l on r out' q = absurd (omega arith)
+  ends-tick (suc k) left e i l on r out' q =
       let d : wound_by s.n p.units.counting.left k ≡ 1 = wound-down s.n k p.units.counting.left (omega (arith, i)) ∙ (omega (arith, i)) in
       let j : k + 1 ≡ suc k = omega arith in
-      tick-way s (at_left 1) left (e ∙ wound-end s.n (suc k) p.units.counting.left l i) out out' h r refl on eh q pool descriptors
+      octet-ended s (at_left 1) left (e ∙ wound-end s.n (suc k) p.units.counting.left l i) pool descriptors out r out' true (sym on) q
       ∙ ap (λ (x : CallState). indications_done s x (octet_end ∷ [])) (ends-quiet k 1 (sym d) (quiet-early s k here.unit_memory (omega (arith, i))))
       ∙ sym (indications-append s here (ends k) (octet_end ∷ []) (happenings-five s (ends k) here.unit_memory))
       ∙ ap (indications_done s here) (replicate-append-replicate k 1 octet_end ∙ ap ends j)
+
+  -- of octets up to the counter's end only the last may bring one
+  pub octets-ended : (k left : ℕ) → left ≡ wound_by s.n p.units.counting.left k → 1 ≤ p.units.counting.left → (p.units.counting.on ≡ true → k ≤ p.units.counting.left)
+      → (due : Bool) → due ≡ (p.units.counting.on && eqb k p.units.counting.left) → (r : Progress) (out' : List ℕ) → CounterMoved s p left due out r out'
+      → holding r pool descriptors out' ≡ indications_done s here (ends k)
+  octets-ended k left e l few due d r out' m = go p.units.counting.on refl (eqb k p.units.counting.left) refl due d m
+    where
+      quiet : happenings s here.unit_memory (ends k) ≡ [] → CounterMoved s p left false out r out' → holding r pool descriptors out' ≡ indications_done s here (ends k)
+      quiet h m = ap₂ (λ (x : Progress) (y : List ℕ). holding x pool descriptors y) m.0 m.1 ∙ ends-quiet k left e h
+
+      go : (on : Bool) → p.units.counting.on ≡ on → (at_end : Bool) → eqb k p.units.counting.left ≡ at_end → (due : Bool) → due ≡ (on && at_end)
+          → CounterMoved s p left due out r out' → holding r pool descriptors out' ≡ indications_done s here (ends k)
+      go true o true i true d m = ends-tick k left e (eqb-true k p.units.counting.left i) l o r out' m
+      go true o true i false d m = absurd (false≢true d)
+      go true o false i true d m = absurd (false≢true (sym d))
+      go true o false i false d m =
+          let n = eqb-false k p.units.counting.left i in
+          let f = few o in
+          quiet (quiet-early s k here.unit_memory (omega (arith, n, f))) m
+      go false o at_end i true d m = absurd (false≢true (sym d))
+      go false o at_end i false d m = quiet (quiet-off s k here.unit_memory o) m

@@ -11,7 +11,7 @@ use Rattle.framing.specs.declared.Line.{Line}
 use Rattle.framing.specs.Representation.{line_of}
 use Rattle.octets.specs.Rows.{run_over, kept}
 use Rattle.octets.specs.InnerScan.{Gathered}
-use Rattle.octets.proofs.Passing.{Passing, Read, Says, kept-room, none_passed, run-of-base, stopped, row-says, one_more, kept_more}
+use Rattle.octets.proofs.Passing.{Passing, Read, Says, kept-room, none_passed, run-of-base, row-says, one_more, kept_more}
 use Rattle.octets.proofs.Joining.{Joining, joining-starts, joining-ends, moved, waits-on, writes}
 
 -- the bits gathered when the octets before `at` are passed, and those kept of the octet x at `at`
@@ -26,8 +26,8 @@ abbrev joined : ℕ → ℕ → ℕ → ℕ
 joined wait have row = wait + row % 256 * 2 ^ have % 4294967296
 
 -- the octets before `at` are passed, and their kept bits joined to g
-pub record Gathering (octets : List ℕ) (run : ℕ) (g : List Bool) (area : List ℕ) (base n have wait at end : ℕ) : Type 0 where
-  pub passing : Passing octets run base at end
+pub record Gathering (octets : List ℕ) (run : ℕ) (g : List Bool) (area : List ℕ) (base n have wait at : ℕ) : Type 0 where
+  pub passing : Passing octets run base at
   pub joining : Joining area n have wait (gathered_at octets run g at)
 
 -- the bits that stand in the area at the start: as many as are said, and with all octets no more than it holds
@@ -38,7 +38,7 @@ at-start octets area bits h e =
 
 module _ (octets : List ℕ) (run : ℕ) (g : List Bool) where
   pub none-gathered : (area : List ℕ) (bits : ℕ) → bits ≤ 2231 → run ≤ 7 → length g ≡ bits → area ≡ packed 279 g
-      → Gathering octets run g area (run * 256) (bits / 8) (bits % 8) (get_or area (bits / 8) 0) 0 (length octets)
+      → Gathering octets run g area (run * 256) (bits / 8) (bits % 8) (get_or area (bits / 8) 0) 0
   unfolding line_bits
   none-gathered area bits b h l e =
       record {
@@ -48,32 +48,29 @@ module _ (octets : List ℕ) (run : ℕ) (g : List Bool) where
             (joining-starts area bits g l b e);
       }
 
-  module _ (area : List ℕ) (base n have wait at end : ℕ) (s : Gathering octets run g area base n have wait at end) where
-    pub gathering-stops : Gathering octets run g area base n have wait at at
-    gathering-stops = record { passing = stopped octets run base at end s.passing; joining = s.joining }
-
-    pub gathering-ends : Gathered octets run g (record { taken = at; line = line_of (base / 256) false (8 * n + have) }) (set area n (wait % 256))
+  module _ (area : List ℕ) (base n have wait at : ℕ) (s : Gathering octets run g area base n have wait at) where
+    pub gathering-ends : Gathered octets run g (record { taken = at; line = line_of (base / 256) false (8 * n + have) }) (set area n wait)
     gathering-ends =
         let j = joining-ends area n have wait (gathered_at octets run g at) s.joining in
         record {
-          few = omega (arith, s.passing.at≤end, s.passing.end≤);
+          few = s.passing.few;
           is_plain = s.passing.is_plain;
-          line = ap₂ {C = Line} (λ r k. line_of r false k) (run-of-base octets run base at end s.passing) j.1;
-          stands = j.0;
+          line = ap₂ {C = Line} (λ r k. line_of r false k) (run-of-base octets run base at s.passing) j;
+          stands = s.joining.stands;
         }
 
-    module _ (room : length g + 8 * length octets ≤ 2231) (x row first : ℕ) (w : Read octets base at end x row first) where
+    module _ (room : length g + 8 * length octets ≤ 2231) (x row first : ℕ) (w : Read octets base at x row first) where
       says : Says (run_over run (line_bits (take at octets))) x row
-      says = row-says octets run base at end s.passing x row first w
+      says = row-says octets run base at s.passing x row first w
 
       all : gathered_at octets run g at ++ kept_of_next octets run at x ≡ gathered_at octets run g (at + 1)
       all =
           append_assoc g (kept run (line_bits (take at octets))) (kept_of_next octets run at x)
-          ∙ ap (λ (y : List Bool). g ++ y) (sym (kept_more octets run base at end s.passing x row first w))
+          ∙ ap (λ (y : List Bool). g ++ y) (sym (kept_more octets run base at s.passing x row first w))
 
       fits : length (gathered_at octets run g at ++ kept_of_next octets run at x) ≤ 2231
       fits =
-          let k : at + 1 ≤ length octets = omega (arith, w.more, s.passing.end≤) in
+          let k : at + 1 ≤ length octets = omega (arith, w.more) in
           omega (arith, ap length all, kept-room octets run (at + 1) g k)
 
       -- the kept bits of the octet, moved past those that wait
@@ -85,15 +82,15 @@ module _ (octets : List ℕ) (run : ℕ) (g : List Bool) where
 
       module _ (area' : List ℕ) (n' have' wait' : ℕ) where
         goes_on : Joining area' n' have' wait' (gathered_at octets run g at ++ kept_of_next octets run at x)
-            → Gathering octets run g area' (first / 256 % 8 * 256) n' have' wait' (at + 1) end
+            → Gathering octets run g area' (first / 256 % 8 * 256) n' have' wait' (at + 1)
         goes_on j =
             record {
-              passing = one_more octets run base at end s.passing x row first w;
+              passing = one_more octets run base at s.passing x row first w;
               joining = subst (λ (y : List Bool). Joining area' n' have' wait' y) all j;
             }
 
         pub waiting : have + row / 65536 < 8 → area' ≡ area → n' ≡ n → have' ≡ have + row / 65536 → wait' ≡ joined wait have row
-            → Gathering octets run g area' (first / 256 % 8 * 256) n' have' wait' (at + 1) end
+            → Gathering octets run g area' (first / 256 % 8 * 256) n' have' wait' (at + 1)
         waiting f ea en eh ew =
             goes_on
             (rw (ea, en, eh, ew)
@@ -102,7 +99,7 @@ module _ (octets : List ℕ) (run : ℕ) (g : List Bool) where
 
         pub filled : 8 ≤ have + row / 65536 → area' ≡ set area n (joined wait have row % 256) → n' ≡ n + 1
             → have' ≡ have + row / 65536 - 8 → wait' ≡ joined wait have row / 256
-            → Gathering octets run g area' (first / 256 % 8 * 256) n' have' wait' (at + 1) end
+            → Gathering octets run g area' (first / 256 % 8 * 256) n' have' wait' (at + 1)
         filled f ea en eh ew =
             goes_on
             (rw (ea, en, eh, ew)

@@ -31,28 +31,6 @@ pub record Joining (area : List ℕ) (n have wait : ℕ) (g : List Bool) : Type 
   pub waits : wait ≡ octet_of (bits_after g)
   pub stands : set area n wait ≡ packed 279 g
 
--- what its numbers stay below
-pub record Sizes (n have : ℕ) : Type 0 where
-  pub place : n < 279
-  pub next : n + 1 < 280
-  pub part : have < 8
-  pub whole : 8 * n < 2232
-  pub held : 8 * n + have < 2232
-
-pub sizes : {area : List ℕ} {n have wait : ℕ} {g : List Bool} → Joining area n have wait g → Sizes n have
-sizes J =
-    record {
-      place = omega (arith, J.room, J.whole);
-      next = omega (arith, J.room, J.whole);
-      part = omega (arith, J.part);
-      whole = omega (arith, J.room, J.whole);
-      held = omega (arith, J.room, J.whole, J.part);
-    }
-
--- with what a row adds
-pub more-held : (have row : ℕ) → have < 8 → row < 16777216 → have + row / 65536 < 264
-more-held have row h k = omega arith
-
 pub joining-starts : (area : List ℕ) (bits : ℕ) (g : List Bool) → length g ≡ bits → bits ≤ 2231 → area ≡ packed 279 g
     → Joining area (bits / 8) (bits % 8) (get_or area (bits / 8) 0) g
 joining-starts area bits g l h e =
@@ -79,10 +57,8 @@ module _ (area : List ℕ) (n have wait : ℕ) (g : List Bool) (J : Joining area
       let p : 2 ^ have ≤ 2 ^ 7 = pow_mono l in
       omega (arith, wait-lt)
 
-  pub joining-ends : (set area n (wait % 256) ≡ packed 279 g) × (8 * n + have ≡ length g)
-  joining-ends =
-      let e : wait % 256 ≡ wait = omega (arith, wait-small) in
-      (ap (set area n) e ∙ J.stands, omega (arith, J.whole, J.part))
+  pub joining-ends : 8 * n + have ≡ length g
+  joining-ends = omega (arith, J.whole, J.part)
 
   -- a row's octet, moved past what waits, in the code's operations
   pub moved : (x : ℕ) → x < 256 → x * 2 ^ have % 4294967296 ≡ x * 2 ^ have

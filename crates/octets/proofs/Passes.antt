@@ -1,7 +1,7 @@
 -- Octets passed by their rows leave the receiver of the definition.
 use Prim.Native.Nat.{ℕ, ◌+◌, ◌-◌, ◌*◌, ◌/◌, ◌≤◌}
 use mathlib.Core.Path.{◌≡◌, refl, sym, ap, ap₂, ◌∙◌}
-use mathlib.Core.Bool.{Bool, true, false, false≢true}
+use mathlib.Core.Bool.{Bool, true, false}
 use mathlib.Core.List.{List, [], ◌++◌}
 use native.Mathlib.Omega.{arith}
 use lib.ListN.{length, take, length-append}
@@ -64,5 +64,5 @@ module _ (M : ℕ) (l : Line) (octets area : List ℕ) (r : Scan) (area' : List 
       let k : length g + length bs ≤ 8 * M + 7 = omega (arith, length-line_bits (take r.taken octets), length-take-le r.taken octets q.few, w.room) in
       let d : decode l area ≡ inside l.run g = ap {B = Receiver} (λ x. record { run = l.run; hunting = x; gathered = g }) h in
       passes (inside (run_over l.run bs) (g ++ kept l.run bs)) (run-over-small l.run bs w.run≤7)
-      (omega (arith, length-append g (kept l.run bs), kept-length l.run bs)) (λ e. absurd (false≢true e)) q.few q.line q.stands
+      (omega (arith, length-append g (kept l.run bs), kept-length l.run bs)) (λ e. cc) q.few q.line q.stands
       (rw d (plain-inside M l.run g bs q.is_plain k))

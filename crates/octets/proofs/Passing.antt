@@ -1,5 +1,5 @@
 -- Octets passed by their rows, as both loops pass them: the run so far, and that no flag and no abort has ended.
-use Prim.Native.Nat.{ℕ, ◌+◌, ◌*◌, ◌/◌, ◌%◌, ◌≤◌, ◌<◌, ◌-◌}
+use Prim.Native.Nat.{ℕ, ◌+◌, ◌*◌, ◌/◌, ◌%◌, ◌≤◌, ◌<◌}
 use mathlib.Core.Path.{◌≡◌, refl, sym, ap, subst, ◌∙◌}
 use mathlib.Core.Bool.{Bool, true}
 use mathlib.Core.List.{List, [], ◌∷◌, ◌++◌, append-nil}
@@ -25,27 +25,26 @@ kept-room octets run at g h =
     let bs = line_bits (take at octets) in
     omega (arith, length-append g (kept run bs), kept-length run bs, length-line_bits (take at octets), length-take-le at octets h)
 
--- the octets before `at` are plain, and the rows of the run after them begin at `base`; no octet from `end` on is asked for
-pub record Passing (octets : List ℕ) (run base at end : ℕ) : Type 0 where
+-- the octets before `at` are plain, and the rows of the run after them begin at `base`
+pub record Passing (octets : List ℕ) (run base at : ℕ) : Type 0 where
   pub low : run ≤ 7
-  pub at≤end : at ≤ end
-  pub end≤ : end ≤ length octets
+  pub few : at ≤ length octets
   pub is_plain : plain run (line_bits (take at octets)) ≡ true
   pub place : base ≡ run_over run (line_bits (take at octets)) * 256
 
 -- the octet at `at` was read, and its row, in which no flag and no abort ends
-pub record Read (octets : List ℕ) (base at end x row first : ℕ) : Type 0 where
-  pub more : at < end
+pub record Read (octets : List ℕ) (base at x row first : ℕ) : Type 0 where
+  pub more : at < length octets
   pub octet : get_or octets at 0 ≡ x
   pub small : x < 256
   pub told : get_or row_table (base + x) 0 ≡ row
   pub unmarked : row < 16777216
   pub told-run : get_or row_table x 0 ≡ first
 
-pub read : (octets rows : List ℕ) (base at end : ℕ) → rows ≡ row_table → at < end → get_or octets at 0 < 256
-    → get_or rows (base + get_or octets at 0) 0 < 16777216 → Read octets base at end (get_or octets at 0) (get_or rows (base + get_or octets at 0) 0) (get_or rows (get_or octets at 0) 0)
-read octets rows base at end t h o m =
-    record { more = h; octet = refl; small = o; told = ap (λ (l : List ℕ). get_or l (base + get_or octets at 0) 0) (sym t); unmarked = m; told-run = ap (λ (l : List ℕ). get_or l (get_or octets at 0) 0) (sym t) }
+pub read : (octets rows : List ℕ) (base at x : ℕ) → rows ≡ row_table → at < length octets → get_or octets at 0 < 256 → x ≡ get_or octets at 0
+    → get_or rows (base + x) 0 < 16777216 → Read octets base at x (get_or rows (base + x) 0) (get_or rows x 0)
+read octets rows base at x t h o e m =
+    record { more = h; octet = sym e; small = omega arith; told = ap (λ (l : List ℕ). get_or l (base + x) 0) (sym t); unmarked = m; told-run = ap (λ (l : List ℕ). get_or l x 0) (sym t) }
 
 -- what the row of an octet x after a run r says
 pub record Says (r x row : ℕ) : Type 0 where
@@ -61,21 +60,18 @@ says r x l h m =
     record { is_plain = p; number = s.1; many = s.2; few = omega (arith, s.2, s.4) }
 
 module _ (octets : List ℕ) (run : ℕ) where
-  pub none_passed : run ≤ 7 → Passing octets run (run * 256) 0 (length octets)
+  pub none_passed : run ≤ 7 → Passing octets run (run * 256) 0
   unfolding plain line_bits
-  none_passed h = record { low = h; at≤end = omega arith; end≤ = omega arith; is_plain = refl; place = refl }
+  none_passed h = record { low = h; few = omega arith; is_plain = refl; place = refl }
 
-  module _ (base at end : ℕ) (p : Passing octets run base at end) where
+  module _ (base at : ℕ) (p : Passing octets run base at) where
     pub base-small : base ≤ 1792
     base-small = omega (arith, run-over-small run (line_bits (take at octets)) p.low, p.place)
 
     pub run-of-base : base / 256 ≡ run_over run (line_bits (take at octets))
     run-of-base = omega (arith, p.place)
 
-    pub stopped : Passing octets run base at at
-    stopped = record { low = p.low; at≤end = omega arith; end≤ = omega (arith, p.at≤end, p.end≤); is_plain = p.is_plain; place = p.place }
-
-    module _ (x row first : ℕ) (w : Read octets base at end x row first) where
+    module _ (x row first : ℕ) (w : Read octets base at x row first) where
       pub row-says : Says (run_over run (line_bits (take at octets))) x row
       row-says =
           let r = run_over run (line_bits (take at octets)) in
@@ -84,14 +80,13 @@ module _ (octets : List ℕ) (run : ℕ) where
           (says r x (run-over-small run (line_bits (take at octets)) p.low) w.small (subst (λ (v : ℕ). v < 16777216) (sym e) w.unmarked))
 
       bits-more : line_bits (take (at + 1) octets) ≡ line_bits (take at octets) ++ bits_of 8 x
-      bits-more = line-next octets at (omega (arith, w.more, p.end≤)) ∙ ap (λ (y : ℕ). line_bits (take at octets) ++ bits_of 8 y) w.octet
+      bits-more = line-next octets at w.more ∙ ap (λ (y : ℕ). line_bits (take at octets) ++ bits_of 8 y) w.octet
 
-      pub one_more : Passing octets run (first / 256 % 8 * 256) (at + 1) end
+      pub one_more : Passing octets run (first / 256 % 8 * 256) (at + 1)
       one_more =
           record {
             low = p.low;
-            at≤end = omega (arith, w.more);
-            end≤ = p.end≤;
+            few = omega (arith, w.more);
             is_plain = ap (plain run) bits-more ∙ plain-joined run (line_bits (take at octets)) (bits_of 8 x) p.is_plain row-says.is_plain;
             place =
                 ap (λ (k : ℕ). k * 256)
@@ -103,26 +98,9 @@ module _ (octets : List ℕ) (run : ℕ) where
       kept_more = ap (kept run) bits-more ∙ kept_append run (line_bits (take at octets)) (bits_of 8 x)
 
 -- ---- what the loops' numbers stay below
-module _ {octets : List ℕ} {run base at end : ℕ} (p : Passing octets run base at end) where
-  pub in-octets : at < end → at < length octets
-  in-octets h = omega (arith, p.end≤)
-
-  -- of few octets
-  pub next_small : (bits : ℕ) → bits + 8 * length octets ≤ 2231 → at < end → at + 1 < 280
-  next_small bits h k = omega (arith, p.end≤)
-
+module _ {octets : List ℕ} {run base at : ℕ} (p : Passing octets run base at) where
   pub row-place : (x : ℕ) → x < 256 → base + x < 2048
-  row-place x h = omega (arith, base-small octets run base at end p)
+  row-place x h = omega (arith, base-small octets run base at p)
 
   pub run_small : base / 256 < 8
-  run_small = omega (arith, base-small octets run base at end p)
-
-pub run-place : (y : ℕ) → y % 8 * 256 < 2048
-run-place y = omega arith
-
--- what is left falls with an octet more, and where the loop stops
-pub one_less : (at end : ℕ) → at < end → end - (at + 1) < end - at
-one_less at end h = omega arith
-
-pub none_left : (at end : ℕ) → at < end → at - at < end - at
-none_left at end h = omega arith
+  run_small = omega (arith, base-small octets run base at p)

@@ -1,20 +1,20 @@
 -- How send and fill meet their answers: what no fault says, room in the output area, and the bits put one after the other.
 use Prim.Native.Nat.{ℕ, ◌+◌, ◌/◌, ◌^◌, ◌≤◌, ◌<◌}
 use mathlib.Core.Path.{◌≡◌, refl, sym, ap, ap₂, subst, ◌∙◌}
-use mathlib.Core.Bool.{Bool, true, false, cond}
+use mathlib.Core.Bool.{Bool, true, false}
 use mathlib.Core.List.{List, [], ◌∷◌, ◌++◌, append-nil}
 use native.Mathlib.Nat.{zero-add, div-lt_iff_lt-mul}
 use native.Mathlib.Omega.{arith}
-use lib.Dec.{ltb, eqb}
+use lib.Dec.{ltb}
 use lib.ListN.{length, get_or, take, drop, length-append}
 use lib.Seq.{length-sets}
 use lib.Pow.{pow_pos}
 use borrow.Author.Tests.{eqb-true, ltb-false, not-false}
 use Rattle.bits.specs.Format.{basic}
-use Rattle.bits.specs.Octets.{bits_of, line_bits, octet_of}
+use Rattle.bits.specs.Octets.{bits_of, line_bits}
 use Rattle.sending.specs.declared.Tx.{Tx}
 use Rattle.sending.specs.Stuffing.{flag, unit_line}
-use Rattle.sending.specs.Packing.{octets_out, still_waiting}
+use Rattle.sending.specs.Packing.{octets_out}
 use Rattle.sending.specs.InnerPutting.{after_bits, area_put, Puts, TxInRange, Room}
 use Rattle.sending.proofs.Puttings.{ready-after, place_after, puts-append, written-append}
 use Rattle.sending.proofs.Stuffs.{unit-length}
@@ -25,22 +25,17 @@ use Rattle.board.proofs.Ranges.{well-formed}
 use Rattle.bits.proofs.Tests.{neither}
 use Rattle.board.specs.InnerRanges.{WellFormed}
 use Rattle.board.proofs.Past.{part-above}
-use Rattle.link.specs.Refusals.{first}
+use Rattle.std.specs.Prelude.{Ok}
 use Rattle.link.proofs.Faults.{none}
-use Rattle.link.proofs.Answers.{done, refused}
+use Rattle.link.proofs.Answers.{done}
+use Rattle.link.specs.declared.Counted.{Counted}
 use Rattle.output.specs.Refusals.{send_number, fill_number}
-use Rattle.output.specs.InnerRefusals.{shared_number}
-use Rattle.output.specs.Output.{OutputOutcome, sender, first_flag, unit_out, fill_content, fill_out, fill_event, link_sent, put_out, not_sent, send_answer, fill_answer}
+use Rattle.output.specs.Output.{sender, first_flag, unit_out, fill_content, fill_out, fill_event, link_sent, put_out, output_of, send_answer, fill_answer}
 
 -- ---- what no fault says
 pub record ReadyToPut (l : Link) (output : List ℕ) : Type 0 where
   pub formed : WellFormed l
   pub room : 336 ≤ length output
-
--- fill's number is that of the faults it shares with send
-pub fill-number : (l : Link) (output : List ℕ) (n : ℕ) → n ≡ shared_number l output 0 → n ≡ fill_number l output
-unfolding fill_number first
-fill-number l output n e = e
 
 pub fillable : (l : Link) (output : List ℕ) → fill_number l output ≡ 0 → ReadyToPut l output
 unfolding fill_number
@@ -195,58 +190,45 @@ fill-room l output r h = go l.transmitter.sent refl
         subst (λ (bs : List Bool). Room (sender l.transmitter) bs output) (sym (unit-is l.transmitter output e h))
         (unit-room l (content l.transmitter output e h) output r (omega arith))
 
--- ---- the answers, by their number
-abbrev answered : ℕ → Link → List Bool → Bool → List ℕ → ℕ → List ℕ → OutputOutcome
-answered n l bits sent last event output = cond (eqb n 0) (put_out l bits sent last event output) (not_sent n l output)
+-- ---- the answers
+put-done : (l : Link) (bits : List Bool) (sent : Bool) (last : List ℕ) (event : ℕ) (output out' : List ℕ) (s : Tx) → Puts output (sender l.transmitter) bits 0 s out'
+    → record { number = 0; link = link_sent l s.count s.wait sent last event; count = s.at; output = out' } ≡ put_out l bits sent last event output
+put-done l bits sent last event output out' s p =
+    let t = sender l.transmitter in
+    let at : s.at ≡ length (octets_out t bits) = ap (λ (x : Tx). x.at) p.tx ∙ zero-add (length (octets_out t bits)) in
+    λ i. record { number = 0; link = link_sent l (p.tx i).count (p.tx i).wait sent last event; count = at i; output = p.area i }
 
-module _ (n number : ℕ) (e : n ≡ number) (l : Link) (bits : List Bool) (sent : Bool) (last : List ℕ) (event : ℕ) (output : List ℕ) (link' : Link) (count : ℕ)
-    (out' : List ℕ) where
-  put_refused : (n ≡ 0 → ⊥) → link' ≡ l → count ≡ 0 → out' ≡ output
-      → record { number = n; link = link'; count = count; output = out' } ≡ answered number l bits sent last event output
-  put_refused z el ec eo =
-      let same : record { number = n; link = link'; count = count; output = out' } ≡ not_sent number l output =
-      λ i. record { number = e i; link = el i; count = ec i; output = eo i } in
-      same ∙ sym (refused _ _ _ (λ q. z (e ∙ q)))
+module _ (l : Link) (content output : List ℕ) where
+  pub may_send : 0 ≡ send_number l content output → l.transmitter.wait < 256
+      → TxInRange (sender l.transmitter) × Room (sender l.transmitter) (unit_out l.transmitter content) output
+  may_send n typed = let ok = sendable l content output (sym n) in (ready l ok.0.formed typed, unit-room l content output ok.0 ok.2)
 
-  put-done : (r : Tx) → n ≡ 0 → Puts output (sender l.transmitter) bits 0 r out' → link' ≡ link_sent l r.count r.wait sent last event → count ≡ r.at
-      → record { number = n; link = link'; count = count; output = out' } ≡ answered number l bits sent last event output
-  put-done r z p q ec =
-      let t = sender l.transmitter in
-      let links : link' ≡ link_sent l (length (still_waiting t bits)) (octet_of (still_waiting t bits)) sent last event =
-      q ∙ ap (λ (x : Tx). link_sent l x.count x.wait sent last event) p.tx in
-      let at : count ≡ length (octets_out t bits) = ec ∙ ap (λ (x : Tx). x.at) p.tx ∙ zero-add (length (octets_out t bits)) in
-      let same : record { number = n; link = link'; count = count; output = out' } ≡ put_out l bits sent last event output =
-      λ i. record { number = z i; link = links i; count = at i; output = p.area i } in
-      same ∙ sym (done _ _ _ (sym e ∙ z))
+  pub two_octets : 0 ≡ send_number l content output → 2 < length content
+  two_octets n = omega (arith, (sendable l content output (sym n)).1)
 
-module _ (l : Link) (content output : List ℕ) (n : ℕ) (e : n ≡ send_number l content output) (link' : Link) (count : ℕ) (out' : List ℕ) where
-  abbrev Sends : Type 0
-  Sends = record { number = n; link = link'; count = count; output = out' } ≡ send_answer l content output
-
-  pub send-refused : (n ≡ 0 → ⊥) → link' ≡ l → count ≡ 0 → out' ≡ output → Sends
+  pub send_done : (s : Tx) (made : Counted) (out' : List ℕ)
+      → made ≡ record { link = link_sent l s.count s.wait true (get_or content 0 0 ∷ get_or content 1 0 ∷ []) 128; count = s.at }
+      → 0 ≡ send_number l content output → Puts output (sender l.transmitter) (unit_out l.transmitter content) 0 s out'
+      → output_of l (Ok made) out' ≡ send_answer l content output
   unfolding send_answer
-  send-refused = put_refused n (send_number l content output) e l (unit_out l.transmitter content) true (take 2 content) 128 output link' count out'
+  send_done s made out' e n p =
+      ap (λ (x : Counted). output_of l (Ok x) out') e
+      ∙ ap (λ (last : List ℕ). output_of l (Ok (record { link = link_sent l s.count s.wait true last 128; count = s.at })) out')
+      (take-two content (sendable l content output (sym n)).1)
+      ∙ put-done l _ _ _ _ output out' s p ∙ sym (done _ _ _ (sym n))
 
-  pub send-done : (r : Tx) → n ≡ 0 → Puts output (sender l.transmitter) (unit_out l.transmitter content) 0 r out'
-      → link' ≡ link_sent l r.count r.wait true (get_or content 0 0 ∷ get_or content 1 0 ∷ []) 128 → count ≡ r.at → Sends
-  unfolding send_answer
-  send-done r z p q =
-      put-done n (send_number l content output) e l (unit_out l.transmitter content) true (take 2 content) 128 output link' count out' r z p
-      (q ∙ ap (λ (last : List ℕ). link_sent l r.count r.wait true last 128) (take-two content (sendable l content output (sym e ∙ z)).1))
+module _ (l : Link) (output : List ℕ) where
+  pub may_fill : 0 ≡ fill_number l output → l.transmitter.wait < 256 → length l.transmitter.last ≡ 2
+      → TxInRange (sender l.transmitter) × Room (sender l.transmitter) (fill_out l.transmitter) output
+  may_fill n typed two = let ok = fillable l output (sym n) in (ready l ok.formed typed, fill-room l output ok two)
 
-module _ (l : Link) (output : List ℕ) (n : ℕ) (e : n ≡ fill_number l output) (link' : Link) (count : ℕ) (out' : List ℕ) where
-  abbrev Fills : Type 0
-  Fills = record { number = n; link = link'; count = count; output = out' } ≡ fill_answer l output
-
-  pub fill-refused : (n ≡ 0 → ⊥) → link' ≡ l → count ≡ 0 → out' ≡ output → Fills
+  pub fill_done : (s : Tx) (made : Counted) (event : ℕ) (out' : List ℕ)
+      → made ≡ record { link = link_sent l s.count s.wait l.transmitter.sent l.transmitter.last event; count = s.at }
+      → event ≡ fill_event l.transmitter.sent
+      → 0 ≡ fill_number l output → Puts output (sender l.transmitter) (fill_out l.transmitter) 0 s out'
+      → output_of l (Ok made) out' ≡ fill_answer l output
   unfolding fill_answer
-  fill-refused =
-      put_refused n (fill_number l output) e l (fill_out l.transmitter) l.transmitter.sent l.transmitter.last (fill_event l.transmitter.sent) output link'
-      count out'
-
-  pub fill_done : (r : Tx) → n ≡ 0 → Puts output (sender l.transmitter) (fill_out l.transmitter) 0 r out'
-      → link' ≡ link_sent l r.count r.wait l.transmitter.sent l.transmitter.last (fill_event l.transmitter.sent) → count ≡ r.at → Fills
-  unfolding fill_answer
-  fill_done =
-      put-done n (fill_number l output) e l (fill_out l.transmitter) l.transmitter.sent l.transmitter.last (fill_event l.transmitter.sent) output link' count
-      out'
+  fill_done s made event out' e v n p =
+      ap (λ (x : Counted). output_of l (Ok x) out') e
+      ∙ ap (λ (x : ℕ). output_of l (Ok (record { link = link_sent l s.count s.wait l.transmitter.sent l.transmitter.last x; count = s.at })) out') v
+      ∙ put-done l _ _ _ _ output out' s p ∙ sym (done _ _ _ (sym n))

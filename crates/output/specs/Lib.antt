@@ -1,4 +1,3 @@
 -- Send and fill.
 pub mod Refusals
-pub mod InnerRefusals
 pub mod Output

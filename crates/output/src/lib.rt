@@ -2,43 +2,38 @@
 
 #![tactic(auto)]
 
-ghost use Rattle.std.specs.Prelude.{◌≡◌, true};
-ghost use Rattle.std.specs.Int.Bits.{bit_or};
-ghost use Rattle.board.specs.Malformed as Malformed;
-ghost use Rattle.board.specs.With.{with_sender};
+ghost use Rattle.std.specs.Prelude.{◌≡◌};
+ghost use Rattle.link.specs.Answer.{number_of};
 ghost use Rattle.sending.specs.InnerPutting.{Puts, TxInRange, Room};
-ghost use Rattle.output.specs.Refusals.{send_number};
-ghost use Rattle.output.specs.InnerRefusals.{shared_number};
-ghost use Rattle.output.specs.Output.{sender, unit_out, fill_out, fill_event, send_answer, fill_answer};
+ghost use Rattle.output.specs.Refusals.{send_number, fill_number};
+ghost use Rattle.output.specs.Output.{sender, unit_out, fill_out, fill_event, link_sent, output_of, send_answer, fill_answer};
 
 use board::{Link, Supervision, Transmitter};
+use link::{Counted, Refusal};
 use sending::Tx;
 
-// The number, the link, and how many octets were put out.
-#[derive(Clone, Copy)]
-pub struct Sent {
-    pub number: u8,
-    pub link: Link,
-    pub count: usize,
+// The faults of fill, which send has too.
+#[tactic(auto, unfolding(crate::specs::Refusals::fill_number, link::specs::Refusals::clear_number, link::specs::Refusals::first))]
+fn check_output(link: &Link, output: &[u8]) -> Result<(), Refusal>
+    ensures { number_of result ≡ fill_number link.now output.now }
+{
+    link::check_open(link)?;
+    if output.len() < Link::OUTPUT {
+        return Err(Refusal::ShortOutput);
+    }
+    Ok(())
 }
 
-// The number of the faults that send and fill share, or what the faults after them give: of a link that is malformed or not, and open or not.
-fn shared_number(malformed: bool, opened: bool, output: &[u8], rest: u8) -> u8
-    ensures { (l : Link) → malformed ≡ Malformed.malformed l → opened ≡ l.opened → result ≡ shared_number l output.now rest }
+// The faults of send.
+#[tactic(auto, unfolding(crate::specs::Refusals::send_number, crate::specs::Refusals::fill_number, link::specs::Refusals::first))]
+fn check_content(link: &Link, content: &[u8], output: &[u8]) -> Result<(), Refusal>
+    ensures { number_of result ≡ send_number link.now content.now output.now }
 {
-    let nine = link::refuse(output.len() < Link::OUTPUT, 9, rest);
-    let two = link::refuse(!opened, 2, nine);
-    link::refuse(malformed, 1, two)
-}
-
-// The number that send answers.
-fn send_number(malformed: bool, opened: bool, content: &[u8], output: &[u8]) -> u8
-    ensures { (l : Link) → malformed ≡ Malformed.malformed l → opened ≡ l.opened → result ≡ send_number l content.now output.now }
-{
-    let few = content.len() < Link::LEAST_CONTENT;
-    let many = Link::MOST_CONTENT < content.len();
-    let ten = link::refuse(few | many, 10, 0);
-    shared_number(malformed, opened, output, ten)
+    check_output(link, output)?;
+    if !(Link::LEAST_CONTENT..=Link::MOST_CONTENT).contains(&content.len()) {
+        return Err(Refusal::ContentLength);
+    }
+    Ok(())
 }
 
 // The sender at the start of an output area, with the bits that wait.
@@ -80,28 +75,6 @@ fn put_fill(output: &mut [u8], t: Transmitter) -> Tx
     put_out(output, t, &content)
 }
 
-// The sender between calls once it has come this far.
-fn transmitter_after(s: Tx, sent: bool, last: [u8; 2]) -> Transmitter
-    ensures { result ≡ record { flagged = true; count = s.count; wait = s.wait; sent = sent; last = last } }
-{
-    Transmitter {
-        flagged: true,
-        count: s.count,
-        wait: s.wait,
-        sent: sent,
-        last: last,
-    }
-}
-
-// Supervision with an event bit more.
-fn with_event(v: Supervision, event: u16) -> Supervision
-    ensures { result ≡ record { monitor = v.monitor; events = bit_or v.events event } }
-{
-    let mut w = v;
-    w.events = v.events | event;
-    w
-}
-
 // The event bit of a fill: none for a flag alone.
 fn fill_event(sent: bool) -> u16
     ensures { result ≡ fill_event sent }
@@ -109,84 +82,49 @@ fn fill_event(sent: bool) -> u16
     if sent { Link::EVENT_FILL } else { 0 }
 }
 
-// The link with another sender and supervision, built once.
-fn with_sender(l: Link, t: Transmitter, v: Supervision) -> Link
-    ensures { result ≡ with_sender l t v }
+// What a call gives once the sender has come this far.
+fn after_output(link: Link, s: Tx, sent: bool, last: [u8; 2], event: u16) -> Counted
+    ensures { result ≡ record { link = link_sent link s.count s.wait sent last event; count = s.at } }
 {
-    let settings = l.settings;
-    let line = l.line;
-    let units = l.units;
-    Link {
-        opened: l.opened,
-        settings: settings,
-        line: line,
-        units: units,
-        supervision: v,
-        transmitter: t,
+    let transmitter = Transmitter {
+        flagged: true,
+        count: s.count,
+        wait: s.wait,
+        sent,
+        last,
+    };
+    let supervision = Supervision {
+        events: link.supervision.events | event,
+        ..link.supervision
+    };
+    Counted {
+        link: Link {
+            supervision,
+            transmitter,
+            ..link
+        },
+        count: s.at,
     }
 }
 
 // Sends content as a unit.
-pub fn send(l: Link, content: &[u8], output: &mut [u8]) -> Sent
-    ensures { record { number = result.number; link = result.link; count = result.count; output = output.new } ≡ send_answer l content.now output.old }
+#[tactic(auto, unfolding(crate::specs::Output::send_answer), using(crate::proofs::Outputs::two_octets))]
+pub fn send(link: Link, content: &[u8], output: &mut [u8]) -> Result<Counted, Refusal>
+    ensures { output_of link result output.new ≡ send_answer link content.now output.old }
 {
-    let malformed = wellformed::is_malformed(
-        l.opened,
-        l.settings,
-        l.line.state,
-        &l.line.area,
-        l.units,
-        l.supervision,
-        l.transmitter,
-    );
-    let n = send_number(malformed, l.opened, content, &*output);
-    let mut t = l.transmitter;
-    let mut v = l.supervision;
-    let mut count: usize = 0;
-    if n == 0 {
-        let s = put_out(output, t, content);
-        let last = [content[0], content[1]];
-        t = transmitter_after(s, true, last);
-        v = with_event(v, Link::EVENT_SENT);
-        count = s.at;
-    }
-    let after = with_sender(l, t, v);
-    Sent {
-        number: n,
-        link: after,
-        count: count,
-    }
+    check_content(&link, content, output)?;
+    let s = put_out(output, link.transmitter, content);
+    let last = [content[0], content[1]];
+    Ok(after_output(link, s, true, last, Link::EVENT_SENT))
 }
 
 // Sends the fill-in unit of the last content; before any content, a flag.
-pub fn fill(l: Link, output: &mut [u8]) -> Sent
-    ensures { record { number = result.number; link = result.link; count = result.count; output = output.new } ≡ fill_answer l output.old }
+#[tactic(auto, unfolding(crate::specs::Output::fill_answer))]
+pub fn fill(link: Link, output: &mut [u8]) -> Result<Counted, Refusal>
+    ensures { output_of link result output.new ≡ fill_answer link output.old }
 {
-    let malformed = wellformed::is_malformed(
-        l.opened,
-        l.settings,
-        l.line.state,
-        &l.line.area,
-        l.units,
-        l.supervision,
-        l.transmitter,
-    );
-    let n = shared_number(malformed, l.opened, &*output, 0);
-    let mut t = l.transmitter;
-    let mut v = l.supervision;
-    let mut count: usize = 0;
-    if n == 0 {
-        let sent = t.sent;
-        let last = t.last;
-        let s = put_fill(output, t);
-        t = transmitter_after(s, sent, last);
-        v = with_event(v, fill_event(sent));
-        count = s.at;
-    }
-    let after = with_sender(l, t, v);
-    Sent {
-        number: n,
-        link: after,
-        count: count,
-    }
+    check_output(&link, output)?;
+    let t = link.transmitter;
+    let s = put_fill(output, t);
+    Ok(after_output(link, s, t.sent, t.last, fill_event(t.sent)))
 }

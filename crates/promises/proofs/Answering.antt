@@ -2,18 +2,15 @@
 use Prim.Native.Nat.{ℕ}
 use mathlib.Core.Path.{◌≡◌, refl, sym, ap, ◌∙◌}
 use mathlib.Core.Bool.{Bool, true, false, cond}
-use mathlib.Core.List.{List}
 use lib.Dec.{eqb}
 use borrow.Author.Tests.{eqb-true}
-use Rattle.bits.specs.Format.{basic}
-use Rattle.memory.specs.declared.Status.TheVariants as statuses
-use Rattle.memory.specs.Lent.{status_word, empty_descriptors, with_slot, with_descriptor, empty_slot}
+use Rattle.memory.specs.Lent.{empty_descriptors}
 use Rattle.board.specs.declared.Link.{Link}
 use Rattle.board.specs.Link.{new_link}
 use Rattle.board.specs.With.{with_supervision}
-use Rattle.link.specs.declared.Answer.{Answer as NumberAndLink}
+use Rattle.link.specs.Answer.{Answer as NumberAndLink}
 use Rattle.link.specs.Refusals.{first, open_number, command_number, clear_number, read_number}
-use Rattle.link.specs.Commands.{command_of, obeyed}
+use Rattle.link.specs.Commands.{command_of, obeying}
 use Rattle.link.specs.Calls.{Outcome, outcome, opened_link, open_answer, command_answer, without_bits, clear_answer, hand_answer}
 use Rattle.link.proofs.Answers.{done}
 use Rattle.link.proofs.Kept.{refused-open, refused-command, refused-clear}
@@ -25,6 +22,7 @@ use Rattle.output.specs.Output.{OutputOutcome, send_answer, fill_answer}
 use Rattle.transmission.specs.Transmission.{send as sending, fill as filling}
 use Rattle.transmission.proofs.Calls.{put, is-done}
 use Rattle.transmission.proofs.Faults.{refused-send, refused-fill}
+use Rattle.readback.proofs.Rounds.{hand-link}
 use Rattle.calls.specs.Call.{Call, opens, receive, command, clear, send, fill, read, reads_number, hand_back, wipe, answer, faults}
 
 -- ---- an answer that is one of two by its number
@@ -48,23 +46,11 @@ number_is l (reads_number pool descriptors slot) = refl
 number_is l (hand_back pool descriptors slot) = picked (λ (o : Outcome). o.number) _ _ _ refl refl
 number_is l (wipe octets words) = refl
 
--- hand back leaves the link as it is
-hand-link : (l : Link) (pool descriptors : List ℕ) (slot : ℕ) → (hand_answer l pool descriptors slot).link ≡ l
-unfolding hand_answer
-hand-link l pool descriptors slot = go (eqb (read_number l pool descriptors slot) 0)
-  where
-    go : (b : Bool)
-        → (cond b (outcome 0 l (with_slot basic pool slot (empty_slot basic)) (with_descriptor descriptors slot (status_word statuses.Empty) 0))
-        (outcome (read_number l pool descriptors slot) l pool descriptors)).link
-        ≡ l
-    go true = refl
-    go false = refl
-
 -- ---- the link after a call that is answered 0
 abbrev pub link_done : Link → Call → Link
 link_done l (opens s pool descriptors) = opened_link s
 link_done l (receive octets pool descriptors records) = (received l octets pool descriptors records).link
-link_done l (command n) = obeyed (command_of n) l
+link_done l (command n) = obeying (command_of n) l
 link_done l (clear chosen) =
     with_supervision l (record { monitor = l.supervision.monitor; events = without_bits l.supervision.events chosen })
 link_done l (send content output) = (put l (sending content output)).link
@@ -83,7 +69,7 @@ link-done l (receive octets pool descriptors records) z =
     let e : receive_answer l octets pool descriptors records ≡ received l octets pool descriptors records = done _ _ _ z in
     ap (λ (o : ReceiveOutcome). o.link) e
 link-done l (command n) z =
-    let e : command_answer l n ≡ record { number = 0; link = obeyed (command_of n) l } = done _ _ _ z in
+    let e : command_answer l n ≡ record { number = 0; link = obeying (command_of n) l } = done _ _ _ z in
     ap (λ (o : NumberAndLink). o.link) e
 link-done l (clear chosen) z =
     let e : clear_answer l chosen ≡ record { number = 0; link = link_done l (clear chosen) } = done _ _ _ z in
@@ -92,7 +78,7 @@ link-done l (send content output) z = ap (λ (o : OutputOutcome). o.link) (is-do
 link-done l (fill output) z = ap (λ (o : OutputOutcome). o.link) (is-done l (filling output) z)
 link-done l (read pool descriptors slot) z = refl
 link-done l (reads_number pool descriptors slot) z = refl
-link-done l (hand_back pool descriptors slot) z = hand-link l pool descriptors slot
+link-done l (hand_back pool descriptors slot) z = hand-link (record { link = l; pool = pool; descriptors = descriptors }) slot
 link-done l (wipe octets words) z = refl
 
 pub link-refused : (l : Link) (c : Call) → (first (faults l c) ≡ 0 → ⊥) → (answer l c).link ≡ l
@@ -105,5 +91,5 @@ link-refused l (send content output) z = ap (λ (o : OutputOutcome). o.link) (re
 link-refused l (fill output) z = ap (λ (o : OutputOutcome). o.link) (refused-fill l output z)
 link-refused l (read pool descriptors slot) z = refl
 link-refused l (reads_number pool descriptors slot) z = refl
-link-refused l (hand_back pool descriptors slot) z = hand-link l pool descriptors slot
+link-refused l (hand_back pool descriptors slot) z = hand-link (record { link = l; pool = pool; descriptors = descriptors }) slot
 link-refused l (wipe octets words) z = absurd (z refl)

@@ -1,8 +1,8 @@
--- Demand 3, over lists of calls.
+-- `Demand3`: when the alarm comes, over lists of calls.
 use Prim.Native.Nat.{ℕ, zero, suc, ◌+◌, ◌-◌, ◌*◌, ◌<◌, ◌≤◌}
 use mathlib.Core.Path.{◌≡◌, refl, sym, ap, subst, ◌∙◌}
 use mathlib.Core.Logic.{◌↔◌, ◌⊎◌, inl, inr, ⊎_elim}
-use mathlib.Core.Bool.{Bool, true, false, not, cond, ◌||◌, false≢true}
+use mathlib.Core.Bool.{Bool, true, false, cond, false≢true}
 use mathlib.Core.List.{List, [], ◌∷◌, ◌++◌}
 use native.Mathlib.Decide.{dec_le}
 use native.Mathlib.Omega.{arith}
@@ -11,6 +11,7 @@ use lib.Dec.{eqb}
 use lib.ListN.{length, get_or, take, length-append, get_or-eq_default}
 use lib.Seq.{get_or-take}
 use borrow.Author.Tests.{eqb-true, eqb-false, not-true}
+use Rattle.std.specs.Prelude.{Option, Some, None}
 use Rattle.monitor.proofs.SixtyFive.{sixty-five}
 use Rattle.monitor.proofs.Reflected.{first-grown}
 use Rattle.monitor.specs.Promises.{AllErrored}
@@ -19,16 +20,16 @@ use Rattle.promises.proofs.Standing.{came-now, kept_on, taken_back, never-yet}
 use Rattle.board.specs.declared.events.Event.TheVariants as bits
 use Rattle.link.proofs.Faults.{none}
 use Rattle.link.specs.Calls.{opened_link}
-use Rattle.link.specs.Commands.{command_of, obeyed}
-use Rattle.link.specs.declared.CommandCode.TheVariants.{MonitorOff, StartFailure, StartAlignment, MustHandOver, CountOctets, Unknown}
-use Rattle.link.specs.declared.CommandCode.{CommandCode}
+use Rattle.link.specs.Commands.{command_of, obeyed, obeying}
+use Rattle.link.specs.declared.Command.TheVariants.{MonitorOff, StartFailure, StartAlignment, MustHandOver, CountOctets}
+use Rattle.link.specs.declared.Command.{Command}
 use Rattle.output.specs.Output.{fill_event}
 use Rattle.board.specs.Events.{event_bit}
 use Rattle.board.specs.declared.Settings.{Settings}
 use Rattle.promises.proofs.EventBits.{bit-or, bit-without}
-use Rattle.promises.proofs.Setting.{plain-happenings, bit-after}
+use Rattle.promises.proofs.Setting.{or-none, plain-happenings, bit-after}
 use Rattle.input.specs.Refusals.{receive_number}
-use Rattle.bits.proofs.Tests.{both, both_true}
+use Rattle.std.proofs.lemmas.Bool.{and_parts, and_from, false_from_ne_true, not_from_false}
 use Rattle.monitor.specs.declared.Limits.{Limits}
 use Rattle.monitor.specs.ErrorMonitors.{ErrorMonitor, suerm, aerm, threshold_of, rule_of}
 use Rattle.board.specs.declared.Link.{Link}
@@ -130,26 +131,22 @@ send-bit : (x : ErrorMonitor) → bit_set (bit_of x) (event_bit bits.Sent) ≡ f
 send-bit suerm = refl
 send-bit aerm = refl
 
-or-none : (a b : Bool) → b ≡ false → a || b ≡ a
-or-none true b e = refl
-or-none false b e = e
-
-obeyed-events : (c : CommandCode) (l : Link) → (obeyed c l).supervision.events ≡ l.supervision.events
+obeyed-events : (c : Option Command) (l : Link) → (obeying c l).supervision.events ≡ l.supervision.events
 unfolding obeyed
-obeyed-events MonitorOff l = refl
-obeyed-events StartFailure l = refl
-obeyed-events StartAlignment l = refl
-obeyed-events MustHandOver l = refl
-obeyed-events CountOctets l = refl
-obeyed-events Unknown l = refl
+obeyed-events (Some MonitorOff) l = refl
+obeyed-events (Some StartFailure) l = refl
+obeyed-events (Some StartAlignment) l = refl
+obeyed-events (Some MustHandOver) l = refl
+obeyed-events (Some CountOctets) l = refl
+obeyed-events None l = refl
 
-command-quiet : (x : ErrorMonitor) (h : History) (c : CommandCode) → (¬ Clears x (command_action c)) × (¬ AlarmIn x h (command_action c))
-command-quiet x h MonitorOff = (λ z. z, λ z. z)
-command-quiet x h StartFailure = (λ z. z, λ z. z)
-command-quiet x h StartAlignment = (λ z. z, λ z. z)
-command-quiet x h MustHandOver = (λ z. z, λ z. z)
-command-quiet x h CountOctets = (λ z. z, λ z. z)
-command-quiet x h Unknown = (λ z. z, λ z. z)
+command-quiet : (x : ErrorMonitor) (h : History) (c : Option Command) → (¬ Clears x (command_action c)) × (¬ AlarmIn x h (command_action c))
+command-quiet x h (Some MonitorOff) = (λ z. z, λ z. z)
+command-quiet x h (Some StartFailure) = (λ z. z, λ z. z)
+command-quiet x h (Some StartAlignment) = (λ z. z, λ z. z)
+command-quiet x h (Some MustHandOver) = (λ z. z, λ z. z)
+command-quiet x h (Some CountOctets) = (λ z. z, λ z. z)
+command-quiet x h None = (λ z. z, λ z. z)
 
 module _ (x : ErrorMonitor) (l : Link) (p : Past) (h : Holds l p) where
   -- open finds a closed link, and leaves no bit set
@@ -179,13 +176,9 @@ module _ (x : ErrorMonitor) (l : Link) (p : Past) (h : Holds l p) where
   cleared-bit : (chosen : ℕ) → After x p.history (clears chosen) l (link_done l (clear chosen))
   cleared-bit chosen =
       let e = bit-without (bit_of x) l.supervision.events chosen in (
-        λ q. let w = both _ _ (sym e ∙ q) in inr ((λ c. false≢true (sym (not-true _ w.1) ∙ c)), w.0),
-        ⊎_elim absurd (λ m. e ∙ both_true _ _ m.1 (unchosen (bit_set (bit_of x) chosen) m.0)),
+        λ q. let w = and_parts _ _ (sym e ∙ q) in inr ((λ c. false≢true (sym (not-true _ w.1) ∙ c)), w.0),
+        ⊎_elim absurd (λ m. e ∙ and_from _ _ m.1 (not_from_false _ (false_from_ne_true (bit_set (bit_of x) chosen) m.0))),
       )
-    where
-      unchosen : (b : Bool) → ¬ (b ≡ true) → not b ≡ true
-      unchosen true n = absurd (n refl)
-      unchosen false n = refl
 
   sent-same : (event : ℕ) → bit_set (bit_of x) event ≡ false
       → bit_set (bit_of x) (bit_or l.supervision.events event) ≡ bit_set (bit_of x) l.supervision.events
@@ -256,7 +249,7 @@ thing-of (h ∷ hs) j q = go h.event refl j q (thing-of hs)
     go false e j q ih = let r = ih j q in (suc r.0, r.1, rw e r.2)
 
 no_start : {x : ErrorMonitor} {h : List Bool} → stopped ≡ started x h → ⊥
-no_start q = let y : ◌≡◌ {A = ℕ} 0 1 = cc in omega arith
+no_start q = cc
 
 abbrev NamedIn : History → List Bool → ℕ → Type 0
 NamedIn p h m = First (threshold_of suerm p.limits) (rule_of suerm p.limits) h m

@@ -8,6 +8,7 @@ use native.Mathlib.Omega.{arith}
 use lib.Dec.{eqb}
 use lib.ListN.{length, replicate, length-replicate}
 use borrow.Author.Tests.{eqb-true, eqb-false, ltb-false, not-false}
+use Rattle.std.specs.Prelude.{Option, Some, None}
 use Rattle.bits.proofs.Machines.{run-append}
 use Rattle.readback.proofs.Sends.{sends-in-use}
 use Rattle.transmission.proofs.Line.{few-two, two-kept}
@@ -29,7 +30,7 @@ use Rattle.link.proofs.Kept.{opened}
 use Rattle.link.specs.Held.{Held}
 use Rattle.records.specs.declared.Noted.{Noted}
 use Rattle.bits.specs.Format.{basic, least_content, most_content}
-use Rattle.bits.proofs.Tests.{neither}
+use Rattle.std.proofs.lemmas.Bool.{or_parts}
 use Rattle.framing.specs.Representation.{decode}
 use Rattle.monitor.specs.declared.Mode.TheVariants.{Off, Failure, Alignment, Idle}
 use Rattle.monitor.specs.declared.Monitor.{Monitor}
@@ -49,10 +50,10 @@ use Rattle.board.proofs.Ranges.{well-formed, not-malformed}
 use Rattle.records.specs.declared.Happening.{Happening}
 use Rattle.records.specs.Record.{supervised, supervision_after}
 use Rattle.records.proofs.Noting.{noted-event, noted-none}
-use Rattle.link.specs.declared.CommandCode.{CommandCode}
-use Rattle.link.specs.declared.CommandCode.TheVariants.{MonitorOff, StartFailure, StartAlignment, MustHandOver, CountOctets, Unknown}
+use Rattle.link.specs.declared.Command.{Command}
+use Rattle.link.specs.declared.Command.TheVariants.{MonitorOff, StartFailure, StartAlignment, MustHandOver, CountOctets}
 use Rattle.link.specs.Refusals.{first, fault, Fault}
-use Rattle.link.specs.Commands.{command_of, obeyed}
+use Rattle.link.specs.Commands.{command_of, obeyed, obeying}
 use Rattle.link.specs.Calls.{opened_link, Outcome, open_answer, without_bits}
 use Rattle.link.proofs.Faults.{none}
 use Rattle.calls.specs.Call.{Call, opens, receive, command, clear, send, fill, read, reads_number, hand_back, wipe, answer, link_after, faults}
@@ -98,9 +99,6 @@ new-formed : malformed new_link ≡ false
 unfolding clear_area
 new-formed = (new-exactly new_link (record { mask = refl; area = length-replicate {A = ℕ} 279 0; held = refl; last = refl }) refl).1 refl
 
-closed : false ≡ true → ⊥
-closed e = false≢true e
-
 pub holds-new : Holds new_link new_past
 holds-new =
     record {
@@ -108,7 +106,7 @@ holds-new =
       formed = new-formed;
       last = refl;
       unset = λ e. refl;
-      limits = λ e. absurd (closed e);
+      limits = λ e. absurd (false≢true e);
       monitor = inl refl;
     }
 
@@ -199,7 +197,7 @@ module _ (l : Link) (p : Past) (h : Holds l p) where
           front = λ i. record { opened = sym o i; settings = sym s i; receiver = (sym b i).receiver; units = (sym b i).unit_memory.units };
           formed = (still-used held feed used can.few can.room).formed;
           last = ap (λ (x : ReceiveOutcome). length x.link.transmitter.last) same-link ∙ h.last;
-          unset = λ e. absurd (closed (sym e ∙ o ∙ is_open));
+          unset = λ e. absurd (false≢true (sym e ∙ o ∙ is_open));
           limits = λ _. line-limits ∙ ap monitor_limits (sym s);
           monitor =
               subst (Agrees p.history.limits (with_events p.history.since es))
@@ -233,51 +231,51 @@ still_formed l u v c n m w =
       wait = w.wait;
     }
 
-obeyed-formed : (l : Link) (c : CommandCode) → WellFormed l → WellFormed (obeyed c l)
+obeyed-formed : (l : Link) (c : Option Command) → WellFormed l → WellFormed (obeying c l)
 unfolding obeyed
-obeyed-formed l MonitorOff w =
+obeyed-formed l (Some MonitorOff) w =
     still_formed l l.units _ refl refl
     (record { number = w.monitor.number; count = count_small l.supervision.monitor.mode l.settings l.supervision.monitor.count w.settings w.monitor.count }) w
-obeyed-formed l StartFailure w =
+obeyed-formed l (Some StartFailure) w =
     still_formed l l.units _ refl refl (record { number = omega (arith, w.settings.d.0); count = omega (arith, w.settings.t.0) }) w
-obeyed-formed l StartAlignment w =
+obeyed-formed l (Some StartAlignment) w =
     still_formed l l.units _ refl refl (record { number = omega (arith, w.settings.d.0); count = omega (arith, w.settings.a.0) }) w
-obeyed-formed l MustHandOver w = still_formed l _ l.supervision refl refl w.monitor w
-obeyed-formed l CountOctets w = still_formed l _ l.supervision refl refl w.monitor w
-obeyed-formed l Unknown w = w
+obeyed-formed l (Some MustHandOver) w = still_formed l _ l.supervision refl refl w.monitor w
+obeyed-formed l (Some CountOctets) w = still_formed l _ l.supervision refl refl w.monitor w
+obeyed-formed l None w = w
 
-obeyed-open : (l : Link) (c : CommandCode) → (obeyed c l).opened ≡ l.opened
+obeyed-open : (l : Link) (c : Option Command) → (obeying c l).opened ≡ l.opened
 unfolding obeyed
-obeyed-open l MonitorOff = refl
-obeyed-open l StartFailure = refl
-obeyed-open l StartAlignment = refl
-obeyed-open l MustHandOver = refl
-obeyed-open l CountOctets = refl
-obeyed-open l Unknown = refl
+obeyed-open l (Some MonitorOff) = refl
+obeyed-open l (Some StartFailure) = refl
+obeyed-open l (Some StartAlignment) = refl
+obeyed-open l (Some MustHandOver) = refl
+obeyed-open l (Some CountOctets) = refl
+obeyed-open l None = refl
 
 module _ (l : Link) (p : Past) (h : Holds l p) where
   -- command
-  obeyed-holds : (c : CommandCode) → l.opened ≡ true
-      → Holds (obeyed c l)
+  obeyed-holds : (c : Option Command) → l.opened ≡ true
+      → Holds (obeying c l)
       (record {
-        front = record { opened = l.opened; settings = l.settings; receiver = (front_of l).receiver; units = (obeyed c (link_of_front (front_of l))).units };
+        front = record { opened = l.opened; settings = l.settings; receiver = (front_of l).receiver; units = (obeying c (link_of_front (front_of l))).units };
         history = history_next p.history (command_action c);
       })
   unfolding obeyed
-  obeyed-holds c o = go c (not-malformed (obeyed c l) (obeyed-open l c ∙ o) (obeyed-formed l c (well-formed l o h.formed)))
+  obeyed-holds c o = go c (not-malformed (obeying c l) (obeyed-open l c ∙ o) (obeyed-formed l c (well-formed l o h.formed)))
     where
-      go : (c : CommandCode) → malformed (obeyed c l) ≡ false
-          → Holds (obeyed c l)
+      go : (c : Option Command) → malformed (obeying c l) ≡ false
+          → Holds (obeying c l)
           (record {
-            front = record { opened = l.opened; settings = l.settings; receiver = (front_of l).receiver; units = (obeyed c (link_of_front (front_of l))).units };
+            front = record { opened = l.opened; settings = l.settings; receiver = (front_of l).receiver; units = (obeying c (link_of_front (front_of l))).units };
             history = history_next p.history (command_action c);
           })
-      go MonitorOff f = record { front = refl; formed = f; last = h.last; unset = λ e. absurd (closed (sym e ∙ o)); limits = h.limits; monitor = inl refl }
-      go StartFailure f = record { front = refl; formed = f; last = h.last; unset = λ e. absurd (closed (sym e ∙ o)); limits = h.limits; monitor = follows-start suerm p.history.limits }
-      go StartAlignment f = record { front = refl; formed = f; last = h.last; unset = λ e. absurd (closed (sym e ∙ o)); limits = h.limits; monitor = follows-start aerm p.history.limits }
-      go MustHandOver f = record { front = refl; formed = f; last = h.last; unset = λ e. absurd (closed (sym e ∙ o)); limits = h.limits; monitor = h.monitor }
-      go CountOctets f = record { front = refl; formed = f; last = h.last; unset = λ e. absurd (closed (sym e ∙ o)); limits = h.limits; monitor = h.monitor }
-      go Unknown f = record { front = refl; formed = f; last = h.last; unset = λ e. absurd (closed (sym e ∙ o)); limits = h.limits; monitor = h.monitor }
+      go (Some MonitorOff) f = record { front = refl; formed = f; last = h.last; unset = λ e. absurd (false≢true (sym e ∙ o)); limits = h.limits; monitor = inl refl }
+      go (Some StartFailure) f = record { front = refl; formed = f; last = h.last; unset = λ e. absurd (false≢true (sym e ∙ o)); limits = h.limits; monitor = follows-start suerm p.history.limits }
+      go (Some StartAlignment) f = record { front = refl; formed = f; last = h.last; unset = λ e. absurd (false≢true (sym e ∙ o)); limits = h.limits; monitor = follows-start aerm p.history.limits }
+      go (Some MustHandOver) f = record { front = refl; formed = f; last = h.last; unset = λ e. absurd (false≢true (sym e ∙ o)); limits = h.limits; monitor = h.monitor }
+      go (Some CountOctets) f = record { front = refl; formed = f; last = h.last; unset = λ e. absurd (false≢true (sym e ∙ o)); limits = h.limits; monitor = h.monitor }
+      go None f = record { front = refl; formed = f; last = h.last; unset = λ e. absurd (false≢true (sym e ∙ o)); limits = h.limits; monitor = h.monitor }
 
   -- open, as the second fault of a table says
   second : (b : Bool) (fs : List Fault) → first (fault b 1 ∷ fault (not l.opened) 2 ∷ fs) ≡ 0 → l.opened ≡ true
@@ -299,7 +297,7 @@ module _ (l : Link) (p : Past) (h : Holds l p) where
         front = refl;
         formed = not-malformed (with_supervision l v) o (still_formed l l.units v refl refl w.monitor w);
         last = h.last;
-        unset = λ e. absurd (closed (sym e ∙ o));
+        unset = λ e. absurd (false≢true (sym e ∙ o));
         limits = h.limits;
         monitor = h.monitor;
       })
@@ -330,7 +328,7 @@ module _ (l : Link) (p : Past) (h : Holds l p) where
           front = λ i. front_of (sym e i);
           formed = sends.1.formed;
           last = two-kept l s h.last q;
-          unset = λ y. absurd (closed (sym y ∙ ap (λ (k : Link). k.opened) e ∙ o));
+          unset = λ y. absurd (false≢true (sym y ∙ ap (λ (k : Link). k.opened) e ∙ o));
           limits = λ x. h.limits o ∙ ap (λ (k : Link). monitor_limits k.settings) (sym e);
           monitor = subst (λ (k : Link). Agrees p.history.limits p.history.since k.supervision.monitor) (sym e) h.monitor;
         }
@@ -344,7 +342,7 @@ module _ (l : Link) (p : Past) (h : Holds l p) where
       let n2 = none _ _ _ (λ z. omega arith) n1.1 in
       let n9 = none _ _ _ (λ z. omega arith) n2.1 in
       let n10 = none _ _ _ (λ z. omega arith) n9.1 in
-      let c = neither _ _ n10.0 in (
+      let c = or_parts _ _ n10.0 in (
         (ltb-false (length content) (least_content basic) c.0, ltb-false (most_content basic) (length content) c.1, ltb-false (length output) basic.output n9.0),
         not-false _ n2.0,
       )
@@ -373,7 +371,7 @@ module _ (l : Link) (p : Past) (h : Holds l p) where
   then-done (read pool descriptors slot) n = then_same l refl
   then-done (reads_number pool descriptors slot) n = then_same l refl
   then-done (hand_back pool descriptors slot) n = then_same _ (link-done l (hand_back pool descriptors slot) n)
-  then-done (wipe octets words) n = record { front = refl; formed = new-formed; last = refl; unset = λ e. refl; limits = λ e. absurd (closed e); monitor = inl refl }
+  then-done (wipe octets words) n = record { front = refl; formed = new-formed; last = refl; unset = λ e. refl; limits = λ e. absurd (false≢true e); monitor = inl refl }
 
   -- ---- any call
   step : (c : Call) (b : Bool) → eqb (number_of (front_of l) c) 0 ≡ b

@@ -1,4 +1,4 @@
--- Demand 3, shown.
+-- `Demand3`, shown.
 pub mod Answering
 pub mod Holding
 pub mod Opening

@@ -2,11 +2,13 @@
 use Prim.Native.Nat.{ℕ, zero, suc}
 use mathlib.Core.Path.{◌≡◌, refl, sym, ap, ◌∙◌}
 use mathlib.Core.Logic.{◌↔◌, ◌⊎◌, inl, inr, ⊎_elim}
-use mathlib.Core.Bool.{Bool, true, false, cond, ◌||◌, false≢true}
+use mathlib.Core.Bool.{Bool, true, false, cond, ◌||◌}
 use mathlib.Core.List.{List, [], ◌∷◌, ◌++◌}
 use lib.Bits.{bit_or}
 use lib.Dec.{eqb}
-use native.Mathlib.Omega.{arith}
+use Rattle.std.specs.Prelude.{Option, Some, None}
+use Rattle.std.proofs.lemmas.Option.{none-some}
+use Rattle.std.proofs.lemmas.Bool.{or_cases, or_left, or_right}
 use Rattle.bits.specs.Octets.{whole_octets}
 use Rattle.bits.specs.Format.{basic}
 use Rattle.framing.specs.Delimitation.{closed, abort, long}
@@ -15,7 +17,7 @@ use Rattle.filter.specs.Memory.{settled}
 use Rattle.memory.specs.declared.Status.{Status}
 use Rattle.memory.specs.declared.Status.TheVariants as statuses
 use Rattle.monitor.specs.declared.Alarm.{Alarm}
-use Rattle.monitor.specs.declared.Alarm.TheVariants.{Nothing, Suer, Aerm}
+use Rattle.monitor.specs.declared.Alarm.TheVariants.{Suer, Aerm}
 use Rattle.monitor.specs.declared.Limits.{Limits}
 use Rattle.monitor.specs.Monitor.{step}
 use Rattle.monitor.specs.ErrorMonitors.{ErrorMonitor, suerm, aerm, alarm_of}
@@ -88,41 +90,37 @@ plain-happenings s [] o = none
 plain-happenings s (m ∷ ms) o = plain-append (happens s o m) (happenings s (next_unit_memory s o m) ms) (plain-happens s o m) (plain-happenings s ms (next_unit_memory s o m))
 
 -- ---- the alarm's bit
-abbrev rings : ErrorMonitor → Alarm → Bool
-rings suerm Suer = true
-rings suerm Aerm = false
-rings suerm Nothing = false
-rings aerm Suer = false
-rings aerm Aerm = true
-rings aerm Nothing = false
+abbrev rings : ErrorMonitor → Option Alarm → Bool
+rings suerm (Some Suer) = true
+rings suerm (Some Aerm) = false
+rings suerm None = false
+rings aerm (Some Suer) = false
+rings aerm (Some Aerm) = true
+rings aerm None = false
 
-rings-bit : (x : ErrorMonitor) (a : Alarm) → bit_set (bit_of x) (alarm_bit a) ≡ rings x a
-rings-bit suerm Suer = refl
-rings-bit suerm Aerm = refl
-rings-bit suerm Nothing = refl
-rings-bit aerm Suer = refl
-rings-bit aerm Aerm = refl
-rings-bit aerm Nothing = refl
+rings-bit : (x : ErrorMonitor) (a : Option Alarm) → bit_set (bit_of x) (alarm_bit a) ≡ rings x a
+rings-bit suerm (Some Suer) = refl
+rings-bit suerm (Some Aerm) = refl
+rings-bit suerm None = refl
+rings-bit aerm (Some Suer) = refl
+rings-bit aerm (Some Aerm) = refl
+rings-bit aerm None = refl
 
-rings-is : (x : ErrorMonitor) (a : Alarm) → rings x a ≡ true → a ≡ alarm_of x
-rings-is suerm Suer e = refl
-rings-is suerm Aerm e = absurd (false≢true e)
-rings-is suerm Nothing e = absurd (false≢true e)
-rings-is aerm Suer e = absurd (false≢true e)
-rings-is aerm Aerm e = refl
-rings-is aerm Nothing e = absurd (false≢true e)
+rings-is : (x : ErrorMonitor) (a : Option Alarm) → rings x a ≡ true → a ≡ Some (alarm_of x)
+rings-is suerm (Some Suer) e = refl
+rings-is suerm (Some Aerm) e = cc
+rings-is suerm None e = cc
+rings-is aerm (Some Suer) e = cc
+rings-is aerm (Some Aerm) e = refl
+rings-is aerm None e = cc
 
-rings-own : (x : ErrorMonitor) → rings x (alarm_of x) ≡ true
+rings-own : (x : ErrorMonitor) → rings x (Some (alarm_of x)) ≡ true
 rings-own suerm = refl
 rings-own aerm = refl
 
-or-none : (a b : Bool) → b ≡ false → a || b ≡ a
+pub or-none : (a b : Bool) → b ≡ false → a || b ≡ a
 or-none true b e = refl
 or-none false b e = e
-
-either : (a b : Bool) → a || b ≡ true → (a ≡ true) ⊎ (b ≡ true)
-either true b e = inl refl
-either false b e = inr e
 
 module _ (x : ErrorMonitor) (l : Limits) where
   abbrev bit : Supervision → Bool
@@ -134,45 +132,34 @@ module _ (x : ErrorMonitor) (l : Limits) where
       own : bit_set (bit_of x) (bit_or w.events h.bits) ≡ bit w
       own = bit-or (bit_of x) w.events h.bits ∙ or-none _ _ (plain-bit x h.bits p)
 
-      go : (b : Bool) → h.event ≡ b → bit (supervised l w h) ≡ bit w || rings x (cond b (step l w.monitor h.errored).alarm Nothing)
+      go : (b : Bool) → h.event ≡ b → bit (supervised l w h) ≡ bit w || rings x (cond b (step l w.monitor h.errored).alarm None)
       go true e =
           let a = (step l w.monitor h.errored).alarm in
           ap (λ (n : Noted). bit n.supervision) (noted-event l w h e)
           ∙ bit-or (bit_of x) (bit_or w.events h.bits) (alarm_bit a)
           ∙ ap (λ (b : Bool). b || bit_set (bit_of x) (alarm_bit a)) own ∙ ap (λ (b : Bool). bit w || b) (rings-bit x a)
       go false e =
-          ap (λ (n : Noted). bit n.supervision) (noted-none l w h e) ∙ own ∙ sym (or-none (bit w) (rings x Nothing) (silent x))
+          ap (λ (n : Noted). bit n.supervision) (noted-none l w h e) ∙ own ∙ sym (or-none (bit w) (rings x None) (silent x))
         where
-          silent : (y : ErrorMonitor) → rings y Nothing ≡ false
+          silent : (y : ErrorMonitor) → rings y None ≡ false
           silent suerm = refl
           silent aerm = refl
 
-  or_left : (a b : Bool) → a ≡ true → a || b ≡ true
-  or_left a b e = rw e
-
-  or_right : (a b : Bool) → b ≡ true → a || b ≡ true
-  or_right true b e = refl
-  or_right false b e = e
-
   pub bit-after : (hs : List Happening) (w : Supervision) → AllPlain hs
-      → (bit (supervision_after l w hs) ≡ true) ↔ ((bit w ≡ true) ⊎ ((k : ℕ) × (alarm_at l w hs k ≡ alarm_of x)))
+      → (bit (supervision_after l w hs) ≡ true) ↔ ((bit w ≡ true) ⊎ ((k : ℕ) × (alarm_at l w hs k ≡ Some (alarm_of x))))
   unfolding supervision_after
-  bit-after [] w none = (inl, ⊎_elim (λ e. e) (λ n. absurd (silent-end x n.1)))
-    where
-      silent-end : (y : ErrorMonitor) → Nothing ≡ alarm_of y → ⊥
-      silent-end suerm q = let z : ◌≡◌ {A = ℕ} 0 1 = cc in omega arith
-      silent-end aerm q = let z : ◌≡◌ {A = ℕ} 0 1 = cc in omega arith
+  bit-after [] w none = (inl, ⊎_elim (λ e. e) (λ n. absurd (none-some (alarm_of x) n.1)))
   bit-after (h ∷ hs) w (more p ps) =
       let ih = bit-after hs (supervised l w h) ps in
       let one = one_bit w h p in (
         λ q. ⊎_elim
-            (λ e. ⊎_elim inl (λ r. inr (0, rings-is x _ r)) (either (bit w) (rings x (alarm_at l w (h ∷ []) 0)) (sym one ∙ e)))
+            (λ e. ⊎_elim inl (λ r. inr (0, rings-is x _ r)) (or_cases (bit w) (rings x (alarm_at l w (h ∷ []) 0)) (sym one ∙ e)))
             (λ n. inr (suc n.0, n.1)) (ih.0 q),
         ⊎_elim (λ e. ih.1 (inl (one ∙ or_left _ _ e))) (λ n. later one ih n.0 n.1),
       )
     where
       later : bit (supervised l w h) ≡ bit w || rings x (alarm_at l w (h ∷ []) 0)
-          → ((bit (supervision_after l (supervised l w h) hs) ≡ true) ↔ ((bit (supervised l w h) ≡ true) ⊎ ((k : ℕ) × (alarm_at l (supervised l w h) hs k ≡ alarm_of x))))
-          → (k : ℕ) → alarm_at l w (h ∷ hs) k ≡ alarm_of x → bit (supervision_after l (supervised l w h) hs) ≡ true
+          → ((bit (supervision_after l (supervised l w h) hs) ≡ true) ↔ ((bit (supervised l w h) ≡ true) ⊎ ((k : ℕ) × (alarm_at l (supervised l w h) hs k ≡ Some (alarm_of x)))))
+          → (k : ℕ) → alarm_at l w (h ∷ hs) k ≡ Some (alarm_of x) → bit (supervision_after l (supervised l w h) hs) ≡ true
       later one ih zero e = ih.1 (inl (one ∙ or_right (bit w) (rings x (alarm_at l w (h ∷ []) 0)) (ap (rings x) e ∙ rings-own x)))
       later one ih (suc k) e = ih.1 (inr (k, e))

@@ -1,4 +1,4 @@
--- Demand 3: "Take any list of calls on one link, new at its start [..]. Whatever the line brings and whatever stands in the lent memory, the alarm comes at an
+-- When the alarm comes: "Take any list of calls on one link, new at its start [..]. Whatever the line brings and whatever stands in the lent memory, the alarm comes at an
 -- event exactly when the failure monitor was started, nobody has stopped it since, and this is the first event since its last start that ends some
 -- unbroken stretch of the events since then in which the errored ones, less the decay points inside it before its last event, reach the threshold."
 -- The proofs are in proofs/Holding.antt, proofs/Alarming.antt and proofs/Demand3.antt.

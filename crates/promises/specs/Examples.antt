@@ -1,4 +1,4 @@
--- Examples of the history, by computation: what a reader has to believe of demand 3's definitions. The proofs are in proofs/Examples.antt.
+-- Examples of the history, by computation: what a reader has to believe of the definitions behind `Demand3`. The proofs are in proofs/Examples.antt.
 use Rattle.std.specs.Prelude.{◌≡◌, Bool, true, false, List, [], ◌∷◌, replicate}
 use Rattle.monitor.specs.ErrorMonitors.{suerm, aerm}
 use Rattle.board.specs.declared.Settings.{Settings}

@@ -1,6 +1,6 @@
--- What a list of calls is to the error monitors, from the calls' arguments and the lent memory by document 01's rules. There is no monitor, no
+-- What a list of calls is to the error monitors, from the calls' arguments and the lent memory by the scope's rules. There is no monitor, no
 -- event bit and no record in it.
-use Rattle.std.specs.Prelude.{ℕ, zero, suc, Bool, true, false, cond, List, [], ◌∷◌, ◌++◌, eqb, drop}
+use Rattle.std.specs.Prelude.{ℕ, zero, suc, Option, Some, None, Bool, true, false, cond, List, [], ◌∷◌, ◌++◌, eqb, drop}
 use Rattle.bits.specs.Machine.{run}
 use Rattle.framing.specs.Delimitation.{Receiver, new_receiver}
 use Rattle.framing.specs.Representation.{encode, encode_area}
@@ -14,9 +14,9 @@ use Rattle.board.specs.Link.{new_settings, new_units, new_supervision, new_trans
 use Rattle.records.specs.declared.Happening.{Happening}
 use Rattle.units.specs.Indications.{line_receiver, line_indications}
 use Rattle.units.specs.Units.{unit_memory, unit_memory_after, happenings}
-use Rattle.link.specs.declared.CommandCode.{CommandCode}
-use Rattle.link.specs.declared.CommandCode.TheVariants.{MonitorOff, StartFailure, StartAlignment, MustHandOver, CountOctets, Unknown}
-use Rattle.link.specs.Commands.{command_of, obeyed}
+use Rattle.link.specs.declared.Command.{Command}
+use Rattle.link.specs.declared.Command.TheVariants.{MonitorOff, StartFailure, StartAlignment, MustHandOver, CountOctets}
+use Rattle.link.specs.Commands.{command_of, obeying}
 use Rattle.link.specs.Refusals.{first}
 use Rattle.link.specs.Calls.{opened_link}
 use Rattle.calls.specs.Call.{Call, opens, receive, command, clear, send, fill, read, reads_number, hand_back, wipe, faults}
@@ -63,7 +63,7 @@ front_done f (receive octets pool descriptors records) =
       units = (unit_memory_after f.settings (unit_memory f.units pool descriptors) (line_indications f.settings.m f.receiver octets)).units;
     }
 front_done f (command n) =
-    record { opened = f.opened; settings = f.settings; receiver = f.receiver; units = (obeyed (command_of n) (link_of_front f)).units }
+    record { opened = f.opened; settings = f.settings; receiver = f.receiver; units = (obeying (command_of n) (link_of_front f)).units }
 front_done f (clear chosen) = f
 front_done f (send content output) = f
 front_done f (fill output) = f
@@ -85,13 +85,13 @@ pub data Action : Type 0 where
   clears : ℕ → Action
 
 -- "Command 2 answered 0 is a start; command 1 answered 0, another monitor's start and a wipe are stops."
-abbrev pub command_action : CommandCode → Action
-command_action MonitorOff = stops
-command_action StartFailure = starts suerm
-command_action StartAlignment = starts aerm
-command_action MustHandOver = nothing
-command_action CountOctets = nothing
-command_action Unknown = nothing
+abbrev pub command_action : Option Command → Action
+command_action (Some MonitorOff) = stops
+command_action (Some StartFailure) = starts suerm
+command_action (Some StartAlignment) = starts aerm
+command_action (Some MustHandOver) = nothing
+command_action (Some CountOctets) = nothing
+command_action None = nothing
 
 abbrev pub action_done : Front → Call → Action
 action_done f (opens s pool descriptors) = books (monitor_limits s)

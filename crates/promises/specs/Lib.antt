@@ -1,4 +1,4 @@
--- Lists of calls, and demand 3.
+-- Lists of calls, and when the alarm comes.
 pub mod History
 pub mod Demand3
 pub mod Examples

@@ -1,3 +1,3 @@
-// What is promised over lists of calls: demand 3. There is no code here.
+// What is promised over lists of calls: when the alarm comes. There is no code here.
 
 #![tactic(auto)]

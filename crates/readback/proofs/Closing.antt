@@ -1,6 +1,6 @@
 -- The line octet that holds the last bit of a unit's closing flag: it finds that unit, and no other is closed after it.
 use Prim.Native.Nat.{ℕ, ◌+◌, ◌≤◌}
-use mathlib.Core.Path.{◌≡◌, refl, sym, ap, ap₂, ◌∙◌}
+use mathlib.Core.Path.{◌≡◌, sym, ap, ap₂, ◌∙◌}
 use mathlib.Core.Bool.{Bool, false}
 use mathlib.Core.List.{List, [], ◌∷◌, ◌++◌, append_assoc, append-nil}
 use native.Mathlib.Omega.{arith}
@@ -15,35 +15,17 @@ use Rattle.sending.proofs.Stuffs.{unit-bits}
 use Rattle.sending.proofs.ReadBack.{ClosesLast, closes-last}
 use Rattle.units.specs.Indications.{line_receiver}
 use Rattle.reception.proofs.Lines.{by_bits}
-
--- ---- a list cut in two places
-pub record Seam (a b c d : List Bool) : Type 0 where
-  pub between : List Bool
-  pub front : a ≡ c ++ between
-  pub back : d ≡ between ++ b
-
-cons-seam : (x y : Bool) (a b c d : List Bool) → x ≡ y → Seam a b c d → Seam (x ∷ a) b (y ∷ c) d
-cons-seam x y a b c d e s = record { between = s.between; front = ap₂ {C = List Bool} (λ (z : Bool) (l : List Bool). z ∷ l) e s.front; back = s.back }
-
--- the second cut is not behind the first
-pub seam : (a b c d : List Bool) → a ++ b ≡ c ++ d → length c ≤ length a → Seam a b c d
-seam a b [] d e h = record { between = a; front = refl; back = sym e }
-seam [] b (y ∷ c) d e h = absurd (omega arith)
-seam (x ∷ a) b (y ∷ c) d e h = cons-seam x y a b c d (cc) (seam a b c d (cc) (omega arith))
+use Rattle.readback.proofs.Lists.{Seam, seam, both-nil}
 
 -- ---- the last octet
-append-empty : (xs ys : List Finding) → xs ++ ys ≡ [] → ys ≡ []
-append-empty [] ys e = e
-append-empty (x ∷ xs) ys e = let z : ◌≡◌ {A = ℕ} 0 1 = cc in absurd (omega arith)
-
 -- nothing is found in `quiet`, of which the octet holds the end q₂, and the bit after it closes u
 close-found : (M : ℕ) (u quiet q₁ q₂ behind : List Bool) → quiet ≡ q₁ ++ q₂ → findings M flagged quiet ≡ []
     → step_bit M (receiver_after M flagged quiet) false ≡ (flagged, closed u ∷ [])
     → findings M (receiver_after M flagged q₁) (q₂ ++ (false ∷ behind)) ≡ closed u ∷ findings M flagged behind
 close-found M u quiet q₁ q₂ behind e none last =
     let none₂ : findings M (receiver_after M flagged q₁) q₂ ≡ [] =
-    append-empty (findings M flagged q₁) (findings M (receiver_after M flagged q₁) q₂)
-    (sym (outs-append (next M) (finds M) q₁ q₂ flagged) ∙ ap (findings M flagged) (sym e) ∙ none) in
+    (both-nil (findings M flagged q₁) (findings M (receiver_after M flagged q₁) q₂)
+    (sym (outs-append (next M) (finds M) q₁ q₂ flagged) ∙ ap (findings M flagged) (sym e) ∙ none)).1 in
     let there : receiver_after M (receiver_after M flagged q₁) q₂ ≡ receiver_after M flagged quiet =
     sym (run-append (next M) q₁ q₂ flagged) ∙ ap (receiver_after M flagged) (sym e) in
     outs-append (next M) (finds M) q₂ (false ∷ behind) (receiver_after M flagged q₁)
@@ -74,8 +56,8 @@ module _ (M : ℕ) (r : Receiver) (early : List ℕ) (last : ℕ) (before behind
 
   pub last-finds : findings M (line_receiver M r early) L ≡ closed (unit_bits content) ∷ findings M flagged behind
   last-finds =
-      ap (λ (s : Receiver). findings M s L) start ∙ ap (findings M (receiver_after M flagged q₁)) second.back
-      ∙ close-found M (unit_bits content) c.quiet q₁ second.between behind second.front c.nothing c.last
+      ap (λ (s : Receiver). findings M s L) start ∙ ap (findings M (receiver_after M flagged q₁)) (sym second.rest)
+      ∙ close-found M (unit_bits content) c.quiet q₁ second.between behind second.first c.nothing c.last
     where
       quiet_long : 7 ≤ length c.quiet
       quiet_long = omega (arith, line-eight (unit_bits content), ap length c.is, length-append c.quiet (false ∷ []))
@@ -98,11 +80,11 @@ module _ (M : ℕ) (r : Receiver) (early : List ℕ) (last : ℕ) (before behind
       q₁ = first.between
 
       early-long : length E ≡ length before + length q₁
-      early-long = ap length first.front ∙ length-append before q₁
+      early-long = ap length first.first ∙ length-append before q₁
 
       second : Seam c.quiet (false ∷ behind) q₁ L
-      second = seam c.quiet (false ∷ behind) q₁ L first.back (omega (arith, eight, early-long))
+      second = seam c.quiet (false ∷ behind) q₁ L (sym first.rest) (omega (arith, eight, early-long))
 
       start : line_receiver M r early ≡ receiver_after M flagged q₁
       start =
-          by_bits M early r ∙ ap (receiver_after M r) first.front ∙ run-append (next M) before q₁ r ∙ ap (λ (s : Receiver). receiver_after M s q₁) opens
+          by_bits M early r ∙ ap (receiver_after M r) first.first ∙ run-append (next M) before q₁ r ∙ ap (λ (s : Receiver). receiver_after M s q₁) opens

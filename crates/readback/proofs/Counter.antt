@@ -1,7 +1,7 @@
 -- N's counter is at most N.
 use Prim.Native.Nat.{ℕ, ◌-◌, ◌≤◌}
 use mathlib.Core.Path.{◌≡◌, refl}
-use mathlib.Core.Bool.{Bool, true, false, cond}
+use mathlib.Core.Bool.{Bool, cond}
 use mathlib.Core.List.{List, [], ◌∷◌}
 use native.Mathlib.Omega.{arith}
 use lib.Dec.{eqb}
@@ -15,6 +15,7 @@ use Rattle.framing.specs.Delimitation.{closed, abort, long}
 use Rattle.framing.specs.Verdict.{verdict_of}
 use Rattle.filter.specs.Memory.{settled}
 use Rattle.board.specs.declared.Settings.{Settings}
+use Rattle.std.proofs.lemmas.Bool.Decides.{nat_tests}
 use Rattle.units.specs.Indications.{Indication, found, octet_end}
 use Rattle.units.specs.Units.{UnitMemory, Effect, is_free, good_unit, errored_unit, closed_unit, octet_effect, effect_of, next_unit_memory, unit_memory_after}
 use Rattle.units.proofs.UnitStates.{each-fate, each-cond, each-verdict}
@@ -43,11 +44,7 @@ module _ (s : Settings) (o : UnitMemory) where
 
   -- it reloads to N, or is one less
   left_end : left o ≤ s.n → cond (eqb (left o) 1) s.n (left o - 1) ≤ s.n
-  left_end h = go (eqb (left o) 1)
-    where
-      go : (b : Bool) → cond b s.n (left o - 1) ≤ s.n
-      go true = omega arith
-      go false = omega arith
+  left_end h = grind (arith, nat_tests)
 
   left_one : (m : Indication) → left o ≤ s.n → left (next_unit_memory s o m) ≤ s.n
   unfolding effect_of octet_effect

@@ -67,7 +67,7 @@ fill-flag : (t : Transmitter) (last : List ℕ) → last ≡ [] → Keeps last t
 unfolding fill_out
 fill-flag t last e k = let now : Keeps [] t = subst (λ (xs : List ℕ). Keeps xs t) e k in rw now
 
-first-answered : {l : Link} {s : Sending} {ss : List Sending} → Accepted l (s ∷ ss) → (answer l s).number ≡ 0
+pub first-answered : {l : Link} {s : Sending} {ss : List Sending} → Accepted l (s ∷ ss) → (answer l s).number ≡ 0
 first-answered (more z a) = z
 
 pub fill-sends : FillSends

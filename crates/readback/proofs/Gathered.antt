@@ -2,8 +2,8 @@
 -- flag, so that it closes none in the seven bits after one. Its run stays at most 7, and while it hunts it has gathered none.
 use Prim.Native.Nat.{ℕ, ◌+◌, ◌-◌, ◌*◌, ◌≤◌, min}
 use mathlib.Core.Path.{◌≡◌, refl}
-use mathlib.Core.Bool.{Bool, true, false, cond, false≢true}
-use mathlib.Core.List.{List, [], ◌∷◌, ◌++◌, map}
+use mathlib.Core.Bool.{Bool, true, false, cond}
+use mathlib.Core.List.{List, [], ◌∷◌, ◌++◌, map, map-append}
 use native.Mathlib.Omega.{arith}
 use lib.ListN.{length, take, length-take}
 use lib.Dec.{eqb, ltb}
@@ -29,7 +29,7 @@ hunts-sound : (r : ℕ) → r ≤ 7 → Sound (hunts r)
 hunts-sound r h = record { run = h; idle = λ _. refl }
 
 inside-sound : (r : ℕ) (g : List Bool) → r ≤ 7 → Sound (inside r g)
-inside-sound r g h = record { run = h; idle = λ e. absurd (false≢true e) }
+inside-sound r g h = record { run = h; idle = λ e. cc }
 
 -- ---- one bit
 record Step (M : ℕ) (s : Receiver) (st : Receiver × List Finding) : Type 0 where
@@ -146,14 +146,11 @@ indications-both : (xs ys : List Indication) → AllAtMostLongest xs → AllAtMo
 indications-both [] ys none_left b = b
 indications-both (x ∷ xs) ys (one_more h a) b = one_more h (indications-both xs ys a b)
 
-found-both : (xs ys : List Finding) → AllAtMostLongest (map found xs) → AllAtMostLongest (map found ys) → AllAtMostLongest (map found (xs ++ ys))
-found-both [] ys a b = b
-found-both (x ∷ xs) ys (one_more h a) b = one_more h (found-both xs ys a b)
-
 findings-allowed : (M : ℕ) (bs : List Bool) (s : Receiver) → M ≤ 278 → length s.gathered ≤ 8 * M + 7 → AllAtMostLongest (map found (findings M s bs))
 findings-allowed M [] s m h = none_left
 findings-allowed M (b ∷ bs) s m h =
-    found-both (finds M s b) (findings M (next M s b) bs) ((step M s b).allowed m h) (findings-allowed M bs (next M s b) m ((step M s b).held h))
+    rw map-append
+    (indications-both (map found (finds M s b)) (map found (findings M (next M s b) bs)) ((step M s b).allowed m h) (findings-allowed M bs (next M s b) m ((step M s b).held h)))
 
 -- ---- the same of line octets
 pub line-held : (M : ℕ) (octets : List ℕ) (s : Receiver) → length s.gathered ≤ 8 * M + 7 → length (line_receiver M s octets).gathered ≤ 8 * M + 7

@@ -125,7 +125,7 @@ module _ (s : Settings) (off : s.filter ≡ false) where
       → o.units.counting.on ≡ false → found_in ms ≡ closings cs → Handed s o ms cs
   unfolding happenings unit_memory_after ring_after effect_of octet_effect
   all-handed [] [] o a f q e = record { all = refl; ring = refl; still = q }
-  all-handed [] (c ∷ cs) o a f q e = absurd (omega (arith, ap length e))
+  all-handed [] (c ∷ cs) o a f q e = cc
   all-handed (octet_end ∷ ms) cs o a f q e =
       let quiet = no-tick (eqb o.units.counting.left 1) o.units.counting.on (tick_of o.units.counts.good) q in
       let r = all-handed ms cs (octet_effect s o).unit_memory a f q e in
@@ -134,7 +134,7 @@ module _ (s : Settings) (off : s.filter ≡ false) where
         ring = r.ring;
         still = r.still;
       }
-  all-handed (found g ∷ ms) [] o a f q e = absurd (omega (arith, ap length e))
+  all-handed (found g ∷ ms) [] o a f q e = cc
   all-handed (found g ∷ ms) (c ∷ cs) o (more a rest) f q e =
       let g-is : g ≡ closed (unit_bits c) = cc in
       let ms-are : found_in ms ≡ closings cs = cc in

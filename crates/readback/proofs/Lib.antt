@@ -1,4 +1,5 @@
 -- Proofs of what one link sends and another receives.
+pub mod Lists
 pub mod Gathered
 pub mod Feeding
 pub mod Closing

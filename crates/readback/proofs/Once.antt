@@ -56,9 +56,9 @@ module _ (M : ℕ) (s : Receiver) where
 -- ---- what closes no unit is no unit's closing
 none-closed : (fs : List Finding) (us : List (List ℕ)) → Unclosed fs → fs ≡ closings us → length us ≡ 0
 none-closed fs [] x e = refl
-none-closed [] (u ∷ us) none e = absurd (omega (arith, ap length e))
-none-closed (abort ∷ fs) (u ∷ us) (aborted x) e = let z : ◌≡◌ {A = ℕ} 0 1 = cc in absurd (omega arith)
-none-closed (long ∷ fs) (u ∷ us) (overlong x) e = let z : ◌≡◌ {A = ℕ} 0 1 = cc in absurd (omega arith)
+none-closed [] (u ∷ us) none e = cc
+none-closed (abort ∷ fs) (u ∷ us) (aborted x) e = cc
+none-closed (long ∷ fs) (u ∷ us) (overlong x) e = cc
 none-closed (closed _ ∷ fs) (u ∷ us) x e = elim x [ ]
 
 -- ---- bits
@@ -70,8 +70,8 @@ one_bit M bs [] (s, f ∷ fs) h x e go_on = omega arith
 one_bit M bs (v ∷ us) (s, closed u ∷ []) h closes e go_on =
     let rest : findings M flagged bs ≡ closings us = cc in
     omega (arith, none-closed (findings M flagged bs) us (flag-unclosed M bs h) rest)
-one_bit M bs (v ∷ us) (s, abort ∷ []) h aborts e go_on = let z : ◌≡◌ {A = ℕ} 0 1 = cc in absurd (omega arith)
-one_bit M bs (v ∷ us) (s, long ∷ []) h too_long e go_on = let z : ◌≡◌ {A = ℕ} 0 1 = cc in absurd (omega arith)
+one_bit M bs (v ∷ us) (s, abort ∷ []) h aborts e go_on = cc
+one_bit M bs (v ∷ us) (s, long ∷ []) h too_long e go_on = cc
 one_bit M bs (v ∷ us) (s, closed u ∷ (_ ∷ _)) h x e go_on = elim x [ ]
 one_bit M bs (v ∷ us) (s, abort ∷ (_ ∷ _)) h x e go_on = elim x [ ]
 one_bit M bs (v ∷ us) (s, long ∷ (_ ∷ _)) h x e go_on = elim x [ ]

@@ -13,27 +13,12 @@ use Rattle.sending.specs.Stream.{flags, units_line, stream_line}
 use Rattle.sending.proofs.ReadBack.{closes-last}
 use Rattle.sending.proofs.Stuffs.{unit-bits}
 use Rattle.sending.proofs.Sent.{read-back-unit}
+use Rattle.readback.proofs.Lists.{Seam, seam, both-nil}
 use Rattle.readback.specs.Streams.{Allowed, AllAllowed, none, more, all_but_last, closed_out}
 
--- ---- lists in two parts
--- where the second part is not longer than the other's, the first begins with the other's first
-pub record Cut {A : Type 0} (xs w front back : List A) : Type 0 where
-  pub between : List A
-  pub first : xs ≡ front ++ between
-  pub second : between ++ w ≡ back
-
-cut : {A : Type 0} (front xs w back : List A) → xs ++ w ≡ front ++ back → length w ≤ length back → Cut xs w front back
-cut [] xs w back e h = record { between = xs; first = refl; second = e }
-cut (f ∷ front) [] w back e h = absurd (omega (arith, ap length e, length-append front back))
-cut {A} (f ∷ front) (x ∷ xs) w back e h =
-    let t : xs ++ w ≡ front ++ back = cc in
-    let a : x ≡ f = cc in
-    let c = cut front xs w back t h in
-    record { between = c.between; first = ap₂ {C = List A} (λ y ys. y ∷ ys) a c.first; second = c.second }
-
-nil-left : {A : Type 0} (xs ys : List A) → xs ++ ys ≡ [] → xs ≡ []
-nil-left [] ys e = refl
-nil-left (x ∷ xs) ys e = absurd (omega (arith, ap length e))
+-- ---- a list cut in two places: the second part is not longer than the other's
+cut : {A : Type 0} (front xs w back : List A) → xs ++ w ≡ front ++ back → length w ≤ length back → Seam xs w front back
+cut front xs w back e h = seam xs w front back e (omega (arith, ap length e, length-append xs w, length-append front back))
 
 -- ---- one receiver reads two parts
 module _ (M : ℕ) (s t : Receiver) (xs ys : List Bool) (e : receiver_after M s xs ≡ t) where
@@ -46,7 +31,7 @@ module _ (M : ℕ) (s t : Receiver) (xs ys : List Bool) (e : receiver_after M s 
 -- nothing is found in the front of what nothing is found in
 front-nothing : (M : ℕ) (s : Receiver) (xs ys : List Bool) → findings M s (xs ++ ys) ≡ [] → findings M s xs ≡ []
 front-nothing M s xs ys e =
-    nil-left (findings M s xs) (findings M (receiver_after M s xs) ys) (sym (outs-append (next M) (finds M) xs ys s) ∙ e)
+    (both-nil (findings M s xs) (findings M (receiver_after M s xs) ys) (sym (outs-append (next M) (finds M) xs ys s) ∙ e)).0
 
 -- ---- flags
 pub record Idles (M : ℕ) (s : Receiver) (bs : List Bool) : Type 0 where
@@ -157,14 +142,14 @@ last-unit M c bits (b ∷ w) a e = unclosed M c bits b w a e
 units-found : (M : ℕ) (cs : List (List ℕ)) (bits w : List Bool) → AllAllowed M cs → bits ++ w ≡ units_line cs → length w ≤ 7
     → findings M flagged bits ≡ found (closed_out (length w) cs)
 unfolding units_line
-units-found M [] bits w a e h = ap (findings M flagged) (nil-left bits w e) ∙ ap found (sym (none-closed (length w)))
+units-found M [] bits w a e h = ap (findings M flagged) (both-nil bits w e).0 ∙ ap found (sym (none-closed (length w)))
 units-found M (c ∷ []) bits w (more a none) e h = last-unit M c bits w a (e ∙ append-nil (unit_line c))
 units-found M (c ∷ d ∷ cs) bits w (more a rest) e h =
     let p = cut (unit_line c) bits w (units_line (d ∷ cs)) e (omega (arith, units-long d cs)) in
     let back = read-back-unit M c a.most in
     ap (findings M flagged) p.first
     ∙ findings-both M flagged flagged (unit_line c) p.between back.0
-    ∙ ap₂ (λ (x y : List Finding). x ++ y) back.1 (units-found M (d ∷ cs) p.between w rest p.second h)
+    ∙ ap₂ (λ (x y : List Finding). x ++ y) back.1 (units-found M (d ∷ cs) p.between w rest p.rest h)
     ∙ ap found (sym (first-closed (length w) c d cs))
 
 -- ---- the line
@@ -179,11 +164,11 @@ from-flags M k (c ∷ cs) bits w a e h =
     let f = new-flags M k in
     ap (findings M new_receiver) p.first
     ∙ findings-both M new_receiver flagged (flags (suc k)) p.between f.state
-    ∙ ap₂ (λ (x y : List Finding). x ++ y) f.nothing (units-found M (c ∷ cs) p.between w a p.second h)
+    ∙ ap₂ (λ (x y : List Finding). x ++ y) f.nothing (units-found M (c ∷ cs) p.between w a p.rest h)
 
 pub stream-found : (M n : ℕ) (cs : List (List ℕ)) (bits w : List Bool) → AllAllowed M cs → bits ++ w ≡ stream_line n cs → length w ≤ 7
     → findings M new_receiver bits ≡ found (closed_out (length w) cs)
 unfolding stream_line flags units_line
-stream-found M zero [] bits w a e h = ap (findings M new_receiver) (nil-left bits w e) ∙ ap found (sym (none-closed (length w)))
+stream-found M zero [] bits w a e h = ap (findings M new_receiver) (both-nil bits w e).0 ∙ ap found (sym (none-closed (length w)))
 stream-found M zero (c ∷ cs) bits w a e h = from-flags M 0 (c ∷ cs) bits w a e h
 stream-found M (suc n) cs bits w a e h = from-flags M n cs bits w a e h

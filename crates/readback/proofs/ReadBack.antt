@@ -20,7 +20,7 @@ use Rattle.readback.specs.SlotRing.{unit_octets}
 use Rattle.readback.specs.Streams.{just_opened}
 use Rattle.readback.specs.Promises.{Booking, opening, Sends, line, ahead_of, ahead, ReadBack, last_sent, FillReadBack, AllReadBack, AllReadInRounds}
 use Rattle.readback.proofs.Feeding.{same-settings}
-use Rattle.readback.proofs.Closing.{seam}
+use Rattle.readback.proofs.Lists.{seam, made-append}
 use Rattle.readback.proofs.Standing.{read-back-fed, slot-below, longest, unit-length}
 use Rattle.readback.proofs.Stream.{stream-read}
 use Rattle.readback.proofs.Rounds.{stream-rounds}
@@ -66,21 +66,20 @@ module _ (octets skipped early later : List ℕ) (last : ℕ) (A U rest w : List
   stretch =
       let front = seam (K ++ F) (line_bits later ++ w) (A ++ U) rest split (omega (arith, sizes)) in
       let behind = front.between in
-      let inner = seam A (U ++ behind) K F (sym (append_assoc A U behind) ∙ sym front.front) (omega (arith, length-line_bits skipped)) in
+      let inner = seam A (U ++ behind) K F (sym (append_assoc A U behind) ∙ sym front.first) (omega (arith, length-line_bits skipped)) in
       record {
         behind = behind;
         is =
-            inner.back
+            sym inner.rest
             ∙ ap (λ (bs : List Bool). bs ++ (U ++ behind))
-            (sym (ap (drop (8 * length skipped)) inner.front ∙ drop_at K inner.between (8 * length skipped) (length-line_bits skipped)));
-        few = omega (arith, sizes, ap length front.front, length-append (A ++ U) behind);
+            (sym (ap (drop (8 * length skipped)) inner.first ∙ drop_at K inner.between (8 * length skipped) (length-line_bits skipped)));
+        few = omega (arith, sizes, ap length front.first, length-append (A ++ U) behind);
       }
 
 -- ---- the line of a booking
 units-append : (xs ys : List (List ℕ)) → units_line (xs ++ ys) ≡ units_line xs ++ units_line ys
 unfolding units_line
-units-append [] ys = refl
-units-append (x ∷ xs) ys = ap (λ (bs : List Bool). unit_line x ++ bs) (units-append xs ys) ∙ sym (append_assoc (unit_line x) (units_line xs) (units_line ys))
+units-append = made-append unit_line units_line refl (λ x xs. refl)
 
 abbrev pub waiting : Booking → List Bool
 waiting b = waiting_bits (link_after (opening b).link b.sendings)

@@ -5,7 +5,7 @@ use mathlib.Core.Bool.{Bool, true, false, cond}
 use mathlib.Core.List.{List, [], ◌∷◌, ◌++◌}
 use native.Mathlib.Omega.{arith}
 use lib.Dec.{eqb}
-use lib.ListN.{length, length-append}
+use lib.ListN.{length, length-append, length-map}
 use Rattle.bits.specs.Format.{basic}
 use Rattle.memory.specs.declared.Status.TheVariants as statuses
 use Rattle.board.specs.Limits.{monitor_limits}
@@ -67,12 +67,11 @@ one-parted u us x xs ys e p =
 
 parted : (us : List (List ℕ)) (xs ys : List Finding) → xs ++ ys ≡ closings us → Parted us xs ys
 parted us [] ys e = record { early = []; late = us; is = refl; first = refl; rest = e }
-parted [] (x ∷ xs) ys e = absurd (omega (arith, ap length e))
+parted [] (x ∷ xs) ys e = cc
 parted (u ∷ us) (x ∷ xs) ys e = one-parted u us x xs ys (cc) (parted us xs ys (cc))
 
 pub closings-length : (us : List (List ℕ)) → length (closings us) ≡ length us
-closings-length [] = refl
-closings-length (u ∷ us) = omega (arith, closings-length us)
+closings-length us = length-map us _
 
 pub both-allowed : (M : ℕ) (us vs : List (List ℕ)) → AllAllowed M (us ++ vs) → AllAllowed M us × AllAllowed M vs
 both-allowed M [] vs a = (none_allowed, a)
@@ -102,7 +101,7 @@ handed-count k [] x = refl
 handed-count k (u ∷ us) x = omega (arith, handed-count k us (ring_with k x u))
 
 -- ---- slots handed back: the link stays
-hand-link : (h : Held) (slot : ℕ) → (handed_back h slot).link ≡ h.link
+pub hand-link : (h : Held) (slot : ℕ) → (handed_back h slot).link ≡ h.link
 unfolding hand_answer
 hand-link h slot = go (eqb (read_number h.link h.pool h.descriptors slot) 0)
   where
@@ -243,7 +242,7 @@ module _ (h : Held) (f : Feed) (z : (answer h f).number ≡ 0) where
 none-come : (h : Held) (us : List (List ℕ)) → Reads h.link (line_bits (octets_of_rounds [])) us → HandsOver h [] us
 unfolding line_bits octets_of_rounds
 none-come h [] r = none
-none-come h (u ∷ us) r = absurd (omega (arith, ap length r.coming))
+none-come h (u ∷ us) r = let e = r.coming in cc
 
 one-round : (t : Round) (ts : List Round) (h : Held) (later : List Bool) (ws us vs : List (List ℕ)) → ws ≡ us ++ vs
     → Called h t.feed later us vs → (Reads (round_done h t).link later vs → HandsOver (round_done h t) ts vs) → HandsOver h (t ∷ ts) ws

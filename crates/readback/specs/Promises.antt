@@ -1,4 +1,4 @@
--- D2.6: what `send` and `fill` of one booking put on the line, `receive` of another hands over. The proofs are in proofs/ReadBack.antt and proofs/Filling.antt.
+-- Read-back: what `send` and `fill` of one booking put on the line, `receive` of another hands over. The proofs are in proofs/ReadBack.antt and proofs/Filling.antt.
 use Rattle.std.specs.Prelude.{ℕ, ◌+◌, ◌*◌, ◌≤◌, ◌<◌, ◌≡◌, Bool, true, false, List, [], ◌∷◌, ◌++◌, length, take, drop, replicate}
 use Rattle.bits.specs.Format.{basic}
 use Rattle.bits.specs.Octets.{line_bits}
@@ -96,7 +96,7 @@ last_sent last [] = last
 last_sent last (send content output ∷ ss) = last_sent (take 2 content) ss
 last_sent last (fill output ∷ ss) = last_sent last ss
 
--- D2.7: after any sends and fills of the sizes allowed a fill is answered 0. It puts behind the bits that wait the unit of the last content's
+-- After any sends and fills of the sizes allowed a fill is answered 0. It puts behind the bits that wait the unit of the last content's
 -- first two octets and an octet 0; "Before any content it puts out one flag only".
 abbrev pub FillSends : Type 0
 FillSends =

@@ -15,11 +15,9 @@ use Rattle.board.specs.declared.Link.{Link}
 use Rattle.board.specs.Link.{new_link}
 use Rattle.board.specs.With.{with_sender}
 use Rattle.link.specs.Refusals.{first}
-use Rattle.output.specs.Refusals.{send_number, fill_number}
 use Rattle.output.specs.Output.{OutputOutcome, not_sent, sender, unit_out, fill_out}
 use Rattle.transmission.specs.Transmission.{Sending, area_of, send as sending, fill as filling, answer as transmitted, sent_on, went_out, link_after as link_sent, octets_sent, Accepted, none, more}
-use Rattle.transmission.proofs.Calls.{bits_out, number_of, put, Put, accepted, octets-out, then_is}
-use Rattle.transmission.proofs.Faults.{refused-send, refused-fill}
+use Rattle.transmission.proofs.Calls.{bits_out, number_of, put, Put, is-done, is-refused, accepted, octets-out, then_is}
 use Rattle.transmission.proofs.Line.{few-two, transmitter-line}
 use Rattle.calls.specs.Call.{Call, opens, receive, command, clear, send, fill, read, reads_number, hand_back, wipe, link_after, faults}
 use Rattle.calls.specs.Lending.{opening}
@@ -66,10 +64,8 @@ module _ (l k : Link) (same : l.transmitter ≡ k.transmitter) where
     sent-then = then_is l x here ∙ same_then x ∙ sym (then_is k x there)
 
 -- a refused one puts nothing out and leaves the link as it is
-is-refused : (l : Link) (x : Sending) → ((transmitted l x).number ≡ 0 → ⊥) → transmitted l x ≡ not_sent (number_of l x) l (area_of x)
-unfolding send_number fill_number
-is-refused l (sending content output) z = refused-send l content output (λ q. z (number_is l (send content output) ∙ q))
-is-refused l (filling output) z = refused-fill l output (λ q. z (number_is l (fill output) ∙ q))
+refused-so : (l : Link) (x : Sending) → ((transmitted l x).number ≡ 0 → ⊥) → transmitted l x ≡ not_sent (number_of l x) l (area_of x)
+refused-so l x z = is-refused l x (λ q. z (ap (λ (o : OutputOutcome). o.number) (is-done l x q)))
 
 -- what its call is
 accepted-in : (l : Link) (x : Sending) → accepted_in l (call_of x) ≡ cond (eqb (transmitted l x).number 0) (x ∷ []) []
@@ -141,8 +137,8 @@ module _ (l k : Link) (v : Live l) (u : Live k) (same : l.transmitter ≡ k.tran
           (ap (λ (m : Link). m.transmitter) (next-is l x) ∙ sent-then l k same x v u z))
       go false e =
           let z = eqb-false _ 0 e in
-          nothing-sent l k (call_of x) cs (accepted-in l x ∙ ap (λ (b : Bool). cond b (x ∷ []) []) e) (put-out l x ∙ ap (λ (o : OutputOutcome). take o.count o.output) (is-refused l x z))
-          (rest k u (ap (λ (m : Link). m.transmitter) (next-is l x ∙ ap (λ (o : OutputOutcome). o.link) (is-refused l x z)) ∙ same))
+          nothing-sent l k (call_of x) cs (accepted-in l x ∙ ap (λ (b : Bool). cond b (x ∷ []) []) e) (put-out l x ∙ ap (λ (o : OutputOutcome). take o.count o.output) (refused-so l x z))
+          (rest k u (ap (λ (m : Link). m.transmitter) (next-is l x ∙ ap (λ (o : OutputOutcome). o.link) (refused-so l x z)) ∙ same))
 
   any-call : (c : Call) → is_wipe c ≡ false → Rest l c cs → Runs l k (c ∷ cs)
   any-call (opens s pool descriptors) w rest = quiet-call (opens s pool descriptors) refl refl refl w rest

@@ -6,14 +6,15 @@ use mathlib.Core.List.{List, [], ◌∷◌}
 use native.Mathlib.Omega.{arith}
 use borrow.Author.Tests.{eqb-true, eqb-false}
 use lib.Dec.{eqb}
+use Rattle.std.specs.Prelude.{Option, Some, None}
 use Rattle.bits.specs.Format.{basic}
 use Rattle.bits.specs.Machine.{run}
 use Rattle.board.specs.declared.Settings.{Settings}
 use Rattle.board.specs.declared.Link.{Link}
 use Rattle.board.specs.Malformed.{in_range}
-use Rattle.link.specs.declared.CommandCode.{CommandCode}
-use Rattle.link.specs.declared.CommandCode.TheVariants.{MonitorOff, StartFailure, StartAlignment, MustHandOver, CountOctets, Unknown}
-use Rattle.link.specs.Commands.{command_of, obeyed}
+use Rattle.link.specs.declared.Command.{Command}
+use Rattle.link.specs.declared.Command.TheVariants.{MonitorOff, StartFailure, StartAlignment, MustHandOver, CountOctets}
+use Rattle.link.specs.Commands.{command_of, obeyed, obeying}
 use Rattle.link.specs.Refusals.{first}
 use Rattle.link.proofs.Faults.{none}
 use Rattle.calls.specs.Call.{Call, opens, receive, command, clear, send, fill, read, reads_number, hand_back, wipe, answer, link_after, faults}
@@ -47,14 +48,14 @@ pub record Keeps (l : Link) (c : Call) (k : Link) : Type 0 where
 same_kept : (l : Link) (c : Call) → Keeps l c l
 same_kept l c = record { opened = refl; settings = refl; transmitter = λ _. refl }
 
-obeyed-keeps : (l : Link) (n : ℕ) (c : CommandCode) → Keeps l (command n) (obeyed c l)
+obeyed-keeps : (l : Link) (n : ℕ) (c : Option Command) → Keeps l (command n) (obeying c l)
 unfolding obeyed
-obeyed-keeps l n MonitorOff = record { opened = refl; settings = refl; transmitter = λ _. refl }
-obeyed-keeps l n StartFailure = record { opened = refl; settings = refl; transmitter = λ _. refl }
-obeyed-keeps l n StartAlignment = record { opened = refl; settings = refl; transmitter = λ _. refl }
-obeyed-keeps l n MustHandOver = record { opened = refl; settings = refl; transmitter = λ _. refl }
-obeyed-keeps l n CountOctets = record { opened = refl; settings = refl; transmitter = λ _. refl }
-obeyed-keeps l n Unknown = record { opened = refl; settings = refl; transmitter = λ _. refl }
+obeyed-keeps l n (Some MonitorOff) = record { opened = refl; settings = refl; transmitter = λ _. refl }
+obeyed-keeps l n (Some StartFailure) = record { opened = refl; settings = refl; transmitter = λ _. refl }
+obeyed-keeps l n (Some StartAlignment) = record { opened = refl; settings = refl; transmitter = λ _. refl }
+obeyed-keeps l n (Some MustHandOver) = record { opened = refl; settings = refl; transmitter = λ _. refl }
+obeyed-keeps l n (Some CountOctets) = record { opened = refl; settings = refl; transmitter = λ _. refl }
+obeyed-keeps l n None = record { opened = refl; settings = refl; transmitter = λ _. refl }
 
 module _ (l : Link) (o : l.opened ≡ true) where
   -- an open link refuses to be opened
@@ -69,8 +70,8 @@ module _ (l : Link) (o : l.opened ≡ true) where
   done-keeps (receive octets pool descriptors records) w n = record { opened = refl; settings = refl; transmitter = λ _. refl }
   done-keeps (command k) w n = obeyed-keeps l k (command_of k)
   done-keeps (clear chosen) w n = record { opened = refl; settings = refl; transmitter = λ _. refl }
-  done-keeps (send content output) w n = record { opened = refl; settings = refl; transmitter = λ e. absurd (false≢true e) }
-  done-keeps (fill output) w n = record { opened = refl; settings = refl; transmitter = λ e. absurd (false≢true e) }
+  done-keeps (send content output) w n = record { opened = refl; settings = refl; transmitter = λ e. cc }
+  done-keeps (fill output) w n = record { opened = refl; settings = refl; transmitter = λ e. cc }
   done-keeps (read pool descriptors slot) w n = same_kept l (read pool descriptors slot)
   done-keeps (reads_number pool descriptors slot) w n = same_kept l (reads_number pool descriptors slot)
   done-keeps (hand_back pool descriptors slot) w n = same_kept l (hand_back pool descriptors slot)

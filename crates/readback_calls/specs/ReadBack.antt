@@ -1,4 +1,4 @@
--- D2.6 over lists of calls: what one booking sends, another hands over, whatever other calls either makes from its opening on. The proofs are in
+-- Read-back over lists of calls: what one booking sends, another hands over, whatever other calls either makes from its opening on. The proofs are in
 -- proofs/ReadBack.antt.
 use Rattle.std.specs.Prelude.{ℕ, ◌+◌, ◌*◌, ◌≤◌, ◌<◌, ◌≡◌, Bool, true, false, cond, List, [], ◌∷◌, ◌++◌, map, length, drop}
 use Rattle.bits.specs.Format.{basic}

@@ -4,7 +4,7 @@ use mathlib.Core.Path.{◌≡◌, refl, sym, ap, ap₂, subst, ◌∙◌}
 use mathlib.Core.List.{List, [], ◌∷◌, ◌++◌}
 use native.Mathlib.Omega.{arith}
 use lib.ListN.{length, take, get_or, length-append}
-use lib.Seq.{length-take-le, take-suc, take-length}
+use lib.Seq.{take-suc}
 use Rattle.board.specs.InnerRanges.{SettingsInRange}
 use Rattle.board.specs.Limits.{record_octets, record_room}
 use Rattle.bits.specs.Octets.{bits_of, line_bits}
@@ -74,21 +74,8 @@ module _ (s : Settings) (line : Line) (area : List ℕ) (w : CallState) where
       (sym (ap (λ (n : ℕ). take n octets) (let e : at + 1 ≡ suc at = omega arith in e) ∙ take-suc octets at 0 h))
       (taken-append (take at octets) (get_or octets at 0 ∷ []) r area' w' r'' area'' w'' a b)
 
-  -- all of a list
-  pub taken-all : (octets : List ℕ) (at : ℕ) → at ≡ length octets → (r : Passed) (area' : List ℕ) (w' : CallState)
-      → LineTaken s line area (take at octets) w r area' w' → LineTaken s line area octets w r area' w'
-  taken-all octets at e r area' w' a =
-      subst (λ (xs : List ℕ). LineTaken s line area xs w r area' w') (ap (λ (n : ℕ). take n octets) e ∙ take-length octets) a
-
   pub same_out : (xs : List ℕ) (r : Passed) (area' : List ℕ) (w' : CallState) → LineTaken s line area xs w r area' w' → length w'.out ≡ length w.out
   same_out xs r area' w' a = ap (λ (x : CallState). length x.out) a.done ∙ indications-length s w (line_indications s.m (decode line area) xs)
-
-  -- room for the three records of the next octet
-  pub room-left : (octets : List ℕ) (at : ℕ) → at < length octets → (r : Passed) (area' : List ℕ) (w' : CallState)
-      → record_octets * w.count + record_room * length octets ≤ length w.out → LineTaken s line area (take at octets) w r area' w' → record_octets * w'.count + record_room ≤ length w'.out
-  room-left octets at h r area' w' k a =
-      let n : length (take at octets) ≡ at = length-take-le at octets (omega arith) in
-      omega (arith, a.few, same_out (take at octets) r area' w' a)
 
 pub next-able : (s : Settings) (p : Progress) (pool descriptors out : List ℕ) → SettingsInRange s
     → StateInRange s (holding p pool descriptors out) → record_octets * p.count + record_room ≤ length out → Able s p pool descriptors out

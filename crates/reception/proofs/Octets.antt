@@ -4,6 +4,8 @@ use mathlib.Core.Path.{◌≡◌, refl, sym, ap, ap₂, subst, ◌∙◌}
 use mathlib.Core.Bool.{Bool}
 use mathlib.Core.List.{List, [], ◌∷◌, ◌++◌, map, append-nil}
 use native.Mathlib.Omega.{arith}
+use Rattle.std.proofs.Common.{Option, Some, None}
+use Rattle.std.proofs.lemmas.List.{map-append}
 use lib.ListN.{length, take, length-append}
 use lib.Seq.{length-sets, length-take-le}
 use Rattle.board.specs.InnerRanges.{SettingsInRange, MonitorInRange}
@@ -14,7 +16,6 @@ use Rattle.bits.proofs.Lines.{length-line_bits}
 use Rattle.bits.proofs.Packing.{length-packed}
 use Rattle.framing.specs.declared.Line.{Line}
 use Rattle.framing.specs.declared.Found.{Found}
-use Rattle.framing.specs.declared.Found.TheVariants.{Nothing, Closed, Abort, Long}
 use Rattle.framing.specs.declared.Fed.{Fed}
 use Rattle.framing.specs.Delimitation.{Receiver, Finding, closed, abort, long, flagged, receiver_after, findings}
 use Rattle.framing.specs.InnerReading.{Reading, reading, IsWellFormed, Holds, shows, standing, FedTo}
@@ -34,7 +35,7 @@ use Rattle.units.specs.InnerFit.{Fits}
 use Rattle.units.specs.Promises.{AtMostLongest}
 use Rattle.units.proofs.UnitStates.{fit-kept, found-one, one_at_most, first-fives, happenings-append}
 use Rattle.indications.specs.declared.Progress.{Progress}
-use Rattle.indications.specs.InnerWriting.{CallState, holding, indications_done, Able, StandsIn, Shown, area_after}
+use Rattle.indications.specs.InnerWriting.{CallState, holding, indications_done, Able, Shown, area_after}
 use Rattle.reception.specs.InnerWriting.{StateInRange, LineTaken}
 use Rattle.indications.proofs.Recording.{indications-none, indications-append}
 
@@ -117,26 +118,17 @@ at-start s line area pool descriptors out octet p a h r =
       same = refl;
     }
 
--- the room and the rest of what one indication needs
-pub able : (s : Settings) (line : Line) (area₀ : List ℕ) (octet : ℕ) (w : CallState) (area pool descriptors out : List ℕ) (cur : Line) (rest left : ℕ) (q : Progress)
-    → Between s line area₀ octet w area pool descriptors out cur rest left q → Able s q pool descriptors out
-able s line area₀ octet w area pool descriptors out cur rest left q b =
-    record { settings = b.settings; monitor = b.ready.monitor; fits = b.ready.fits; room = omega (arith, b.room) }
-
 -- ---- one turn
-map-append : (xs ys : List Finding) → map found (xs ++ ys) ≡ map found xs ++ map found ys
-map-append [] ys = refl
-map-append (x ∷ xs) ys = ap (λ (ms : List Indication). found x ∷ ms) (map-append xs ys)
-
 -- a closed unit is at most 8M bits long
 closed-short : (M n : ℕ) (l : Line) (area : List ℕ) → M ≤ 278 → Holds M l (n + 7) area → n ≤ 2224
 closed-short M n l area m h = omega (arith, h.fits)
 
-pub stands-in : (M : ℕ) (l : Line) (f : Found) (area : List ℕ) → M ≤ 278 → Holds M l (standing f l.bits) area → StandsIn f area
-stands-in M l Nothing area m h = tt
-stands-in M l (Closed n) area m h = (closed-short M n l area m h, h.zeroed)
-stands-in M l Abort area m h = tt
-stands-in M l Long area m h = tt
+-- nothing is shown where nothing is found
+none-found : (fs : List Finding) → None ≡ shows fs → fs ≡ []
+none-found [] e = refl
+none-found (closed u ∷ fs) e = absurd (cc)
+none-found (abort ∷ fs) e = absurd (cc)
+none-found (long ∷ fs) e = absurd (cc)
 
 all-allowed : (M : ℕ) (l : Line) (fs : List Finding) (area : List ℕ) → M ≤ 278 → length fs ≤ 1 → Holds M l (standing (shows fs) l.bits) area → AllAtMostLongest (map found fs)
 all-allowed M l [] area m s h = none_left
@@ -180,8 +172,8 @@ kept M (closed u ∷ fs) st l area m e g h =
 kept M (abort ∷ fs) st l area m e g h = record { is = e; held = h }
 kept M (long ∷ fs) st l area m e g h = record { is = e; held = h }
 
-module _ (s : Settings) (line : Line) (area₀ : List ℕ) (octet : ℕ) (w : CallState) (area pool descriptors out : List ℕ) (cur : Line) (rest left : ℕ) (q : Progress)
-    (b : Between s line area₀ octet w area pool descriptors out cur rest left q) (fed : Fed) (area₁ : List ℕ)
+module _ {s : Settings} {line : Line} {area₀ : List ℕ} {octet : ℕ} {w : CallState} {area pool descriptors out : List ℕ} {cur : Line} {rest left : ℕ} {q : Progress}
+    (b : Between s line area₀ octet w area pool descriptors out cur rest left q) {fed : Fed} {area₁ : List ℕ}
     (f : FedTo s.m (reading s.m (decode cur area) (bits_of left rest)) fed area₁) where
   abbrev M : ℕ
   M = s.m
@@ -195,11 +187,15 @@ module _ (s : Settings) (line : Line) (area₀ : List ℕ) (octet : ℕ) (w : Ca
   single : length g.found ≤ 1
   single = reading-single M (bits_of left rest) (decode cur area)
 
-  pub shown : Shown g.found fed.step.found area₁
+  shown : Shown g.found fed.step.found area₁
   shown = record { is = f.step.found; single = single; unit = f.step.unit }
 
   holds-shown : Holds M fed.step.line (standing (shows g.found) fed.step.line.bits) area₁
-  holds-shown = subst (λ (x : Found). Holds M fed.step.line (standing x fed.step.line.bits) area₁) f.step.found f.step.holds
+  holds-shown = subst (λ (x : Option Found). Holds M fed.step.line (standing x fed.step.line.bits) area₁) f.step.found f.step.holds
+
+  nothing-done : fed.step.found ≡ None → here ≡ indications_done s here (map found g.found)
+  nothing-done e =
+      sym (indications-none s here) ∙ ap (λ (fs : List Finding). indications_done s here (map found fs)) (sym (none-found g.found (sym e ∙ f.step.found)))
 
   pub less : 0 < left → fed.left < left
   less h =
@@ -212,7 +208,7 @@ module _ (s : Settings) (line : Line) (area₀ : List ℕ) (octet : ℕ) (w : Ca
       (e : holding q' pool' descriptors' out' ≡ indications_done s here (map found g.found)) (ea : area' ≡ area_after fed.step.found area₁) where
     after_kept : Kept M g.state fed.step.line area'
     after_kept =
-        subst (Kept M g.state fed.step.line) (sym (ea ∙ ap (λ (x : Found). area_after x area₁) f.step.found))
+        subst (Kept M g.state fed.step.line) (sym (ea ∙ ap (λ (x : Option Found). area_after x area₁) f.step.found))
         (kept M g.found g.state fed.step.line area₁ b.settings.m.1 f.step.state
         (λ u gs x. reading-flag M (bits_of left rest) (decode cur area) u gs x) holds-shown)
 
@@ -229,7 +225,7 @@ module _ (s : Settings) (line : Line) (area₀ : List ℕ) (octet : ℕ) (w : Ca
     all_done =
         ap (λ (x : CallState). indications_done s x later) e
         ∙ sym (indications-append s here (map found g.found) later (happenings-five s (map found g.found) here.unit_memory))
-        ∙ ap (indications_done s here) (sym (map-append g.found (findings M (decode fed.step.line area') (bits_of fed.left fed.octet))) ∙ ap (map found) all-findings)
+        ∙ ap (indications_done s here) (sym (map-append found g.found (findings M (decode fed.step.line area') (bits_of fed.left fed.octet))) ∙ ap (map found) all-findings)
 
     same_out : length out' ≡ length out
     same_out = ap (λ (x : CallState). length x.out) e ∙ indications-length s here (map found g.found)
@@ -237,7 +233,7 @@ module _ (s : Settings) (line : Line) (area₀ : List ℕ) (octet : ℕ) (w : Ca
     counted : q'.count ≡ q.count + length g.found
     counted = ap (λ (x : CallState). x.count) e ∙ founds-count s here g.found
 
-    pub turn : Between s line area₀ octet w area' pool' descriptors' out' fed.step.line fed.octet fed.left q'
+    turn : Between s line area₀ octet w area' pool' descriptors' out' fed.step.line fed.octet fed.left q'
     turn =
         record {
           few = f.few;
@@ -257,6 +253,16 @@ module _ (s : Settings) (line : Line) (area₀ : List ℕ) (octet : ℕ) (w : Ca
               omega (arith, b.room, counted, same_out);
           same = same_out ∙ b.same;
         }
+
+  -- something was found, and dealt with
+  pub turn-some : {x : Found} → fed.step.found ≡ Some x → (q' : Progress) (pool' descriptors' out' area' : List ℕ)
+      → ((fs : List Finding) → Shown fs (Some x) area₁ → holding q' pool' descriptors' out' ≡ indications_done s here (map found fs)) → area' ≡ area_after (Some x) area₁
+      → Between s line area₀ octet w area' pool' descriptors' out' fed.step.line fed.octet fed.left q'
+  turn-some i q' pool' descriptors' out' area' d ea = turn q' pool' descriptors' out' area' (d g.found (rw i at shown)) (rw i ea)
+
+  -- nothing was
+  pub turn-none : fed.step.found ≡ None → Between s line area₀ octet w area₁ pool descriptors out fed.step.line fed.octet fed.left q
+  turn-none i = turn q pool descriptors out area₁ (nothing-done i) (rw i refl)
 
 -- ---- the end of the octet
 pub single-octet : (M : ℕ) (st : Receiver) (octet : ℕ) → line_indications M st (octet ∷ []) ≡ octet_indications M st octet
@@ -279,7 +285,7 @@ three-more : (s : Settings) (M : ℕ) (st : Receiver) (octet : ℕ) (w : CallSta
 unfolding indications_done
 three-more s M st octet w h = omega (arith, three s M st octet w.unit_memory h)
 
-module _ (s : Settings) (line : Line) (area₀ : List ℕ) (octet : ℕ) (w : CallState) (area pool descriptors out : List ℕ) (cur : Line) (rest left : ℕ) (q : Progress)
+module _ {s : Settings} {line : Line} {area₀ : List ℕ} {octet : ℕ} {w : CallState} {area pool descriptors out : List ℕ} {cur : Line} {rest left : ℕ} {q : Progress}
     (b : Between s line area₀ octet w area pool descriptors out cur rest left q) (z : left ≡ 0) where
   no_bits : bits_of left rest ≡ []
   unfolding bits_of

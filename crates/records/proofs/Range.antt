@@ -11,9 +11,10 @@ use Rattle.board.specs.InnerRanges.{SettingsInRange, MonitorInRange}
 use Rattle.board.specs.declared.Settings.{Settings}
 use Rattle.bits.specs.Octets.{worth}
 use Rattle.bits.proofs.Digits.{worth-lt}
+use Rattle.std.specs.Prelude.{Some, None}
 use Rattle.monitor.specs.declared.Mode.{Mode}
 use Rattle.monitor.specs.declared.Mode.TheVariants.{Off, Failure, Alignment, Idle}
-use Rattle.monitor.specs.declared.Alarm.TheVariants.{Nothing, Suer, Aerm}
+use Rattle.monitor.specs.declared.Alarm.TheVariants.{Suer, Aerm}
 use Rattle.monitor.specs.declared.Monitor.{Monitor}
 use Rattle.monitor.specs.Monitor.{monitor_of, gives, failing, aligning, step}
 use Rattle.monitor.proofs.Steps.{step-failing, step-aligning, step-off-or-idle}
@@ -27,7 +28,7 @@ module _ (s : Settings) (r : SettingsInRange s) where
   failing-in c n p q = go (leb s.t c) refl (eqb (n + 1) s.d) refl
     where
       go : (b : Bool) → leb s.t c ≡ b → (d : Bool) → eqb (n + 1) s.d ≡ d
-          → MonitorInRange s (cond b (gives (monitor_of Idle c n) Suer) (cond d (gives (monitor_of Failure (c - 1) 0) Nothing) (gives (monitor_of Failure c (n + 1)) Nothing))).monitor
+          → MonitorInRange s (cond b (gives (monitor_of Idle c n) (Some Suer)) (cond d (gives (monitor_of Failure (c - 1) 0) None) (gives (monitor_of Failure c (n + 1)) None))).monitor
       go true u d v = record { number = q; count = omega (arith, r.t.1) }
       go false u true v = record { number = omega (arith, r.d.0); count = omega (arith, leb-false s.t c u) }
       go false u false v =
@@ -38,7 +39,7 @@ module _ (s : Settings) (r : SettingsInRange s) where
   aligning-in c n p q = go (leb s.a c) refl
     where
       go : (b : Bool) → leb s.a c ≡ b
-          → MonitorInRange s (cond b (gives (monitor_of Idle c n) Aerm) (gives (monitor_of Alignment c n) Nothing)).monitor
+          → MonitorInRange s (cond b (gives (monitor_of Idle c n) (Some Aerm)) (gives (monitor_of Alignment c n) None)).monitor
       go true u = record { number = q; count = omega (arith, r.a.1) }
       go false u = record { number = q; count = leb-false s.a c u }
 

@@ -1,4 +1,4 @@
--- Proved cases of document 01 that sending decides, by computation.
+-- Proved cases of the scope that sending decides, by computation.
 use mathlib.Core.Path.{refl}
 use Rattle.bits.specs.Octets.{bits_of}
 use Rattle.sending.specs.Promises.{P14, FifthAtEnd}

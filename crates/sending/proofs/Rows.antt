@@ -33,10 +33,10 @@ pub record Says (ones x row : ℕ) : Type 0 where
   pub then : row / 4096 ≡ ones_over ones (bits_of 8 x)
   pub short : row / 4096 ≤ 4
 
-pub row-says : (rows : List ℕ) (ones x : ℕ) → rows ≡ stuffing_table → ones ≤ 4 → x < 256 → Says ones x (get_or rows (ones * 256 + x) 0)
+pub row-says : (rows : List ℕ) (ones x at : ℕ) → rows ≡ stuffing_table → at ≡ ones * 256 + x → ones ≤ 4 → x < 256 → Says ones x (get_or rows at 0)
 unfolding row_of
-row-says rows ones x e h k =
-    let row = get_or rows (ones * 256 + x) 0 in
+row-says rows ones x at e p h k =
+    let row = get_or rows at 0 in
     let bits = bits_of 8 x in
     let st = stuffed ones bits in
     let zeros = length (zeros_in ones bits) in
@@ -45,7 +45,7 @@ row-says rows ones x e h k =
     let l : length st ≡ 8 + zeros = stuffed-length ones bits ∙ ap (λ (n : ℕ). n + zeros) eight in
     let ten : length st ≤ 10 = omega arith in
     let v : octet_of st < 1024 = lt_of_lt_of_le (octet_of-lt st) (pow_mono ten) in
-    let n = three-numbers row (octet_of st) zeros (ones_over ones bits) (ap (λ (l : List ℕ). get_or l (ones * 256 + x) 0) e ∙ each_row ones x h k) v z in
+    let n = three-numbers row (octet_of st) zeros (ones_over ones bits) (ap₂ (λ (l : List ℕ) (i : ℕ). get_or l i 0) e p ∙ each_row ones x h k) v z in
     let many : 8 + row / 1024 % 4 ≡ length st = ap (λ (i : ℕ). 8 + i) n.1 ∙ sym l in
     record {
       piece = ap₂ bits_of many n.0 ∙ all_back (length st) st refl;

@@ -10,9 +10,10 @@ ghost use Rattle.sending.specs.InnerPutting.{Puts, TxInRange, Room};
 
 mod table;
 
+// Fixed memory: the output area is lent, and `at` says how far it is written.
 // Where the next octet goes in the output area; how many bits wait and the octet that holds them, first one lowest; and the
 // ones sent in a row.
-#[derive(Clone, Copy)]
+#[derive(Clone, Copy, PartialEq, Eq)]
 pub struct Tx {
     pub at: usize,
     pub count: u8,
@@ -20,11 +21,11 @@ pub struct Tx {
     pub ones: u8,
 }
 
-// The rows of stuffing, to be lent to the loop: made once for a unit.
-fn stuffing_table() -> [u16; 1280]
-    ensures { result ≡ stuffing_table }
+// The rows of stuffing, where they stand.
+fn stuffing_table() -> &'static [u16; 1280]
+    ensures { result.now ≡ stuffing_table }
 {
-    table::ROWS
+    &table::ROWS
 }
 
 // Eight to ten bits, given as a number, behind those that wait: the octets that they fill go out. So many ones in a row stand at their end.
@@ -33,53 +34,46 @@ fn put_piece(out: &mut [u8], t: Tx, piece: u16, many: u8, ones: u8) -> Tx
     requires piece_bound { (piece < 2 ^ many) × (8 ≤ many) × (many ≤ 10) }
     ensures { Puts out.old t (bits_of many piece) ones result out.new }
 {
-    let at = t.at;
-    let count = t.count;
-    let joined = t.wait as u32 + ((piece as u32) << count);
-    let have = count + many;
-    out[at] = (joined % 256) as u8;
+    let joined = u32::from(t.wait) + (u32::from(piece) << t.count);
+    let have = t.count + many;
+    out[t.at] = (joined % 256) as u8;
     if have < 16 {
         return Tx {
-            at: at + 1,
+            at: t.at + 1,
             count: have - 8,
             wait: (joined / 256) as u8,
-            ones: ones,
+            ones,
         };
     }
-    out[at + 1] = (joined / 256 % 256) as u8;
+    out[t.at + 1] = (joined / 256 % 256) as u8;
     Tx {
-        at: at + 2,
+        at: t.at + 2,
         count: have - 16,
         wait: (joined / 65536) as u8,
-        ones: ones,
+        ones,
     }
 }
 
-// One octet of a unit, by its row. The rows are lent.
-fn put_octet(out: &mut [u8], t: Tx, octet: u8, rows: &[u16; 1280]) -> Tx
-    requires tx_in_range { TxInRange t × Room t (stuffed t.ones (bits_of 8 octet)) out.old }
-    requires rows_value { rows.now ≡ stuffing_table }
+// One octet of a unit, by its row.
+fn put_octet(out: &mut [u8], t: Tx, octet: u8) -> Tx
+    requires { TxInRange t × Room t (stuffed t.ones (bits_of 8 octet)) out.old }
     ensures { Puts out.old t (stuffed t.ones (bits_of 8 octet)) (ones_over t.ones (bits_of 8 octet)) result out.new }
 {
-    let at = t.ones as usize * 256 + octet as usize;
-    let row = rows[at];
+    let at = usize::from(t.ones) * 256 + usize::from(octet);
+    let row = stuffing_table()[at];
     let zeros = (row / 1024 % 4) as u8;
     put_piece(out, t, row % 1024, 8 + zeros, (row / 4096) as u8)
 }
 
-// Octets of a unit. The rows are lent.
-fn put_octets(out: &mut [u8], t: Tx, octets: &[u8], rows: &[u16; 1280]) -> Tx
-    requires tx_in_range { TxInRange t × Room t (stuffed t.ones (line_bits octets.now)) out.old }
-    requires rows_value { rows.now ≡ stuffing_table }
+// Octets of a unit.
+fn put_octets(out: &mut [u8], mut t: Tx, octets: &[u8]) -> Tx
+    requires { TxInRange t × Room t (stuffed t.ones (line_bits octets.now)) out.old }
     ensures { Puts out.old t (stuffed t.ones (line_bits octets.now)) (ones_over t.ones (line_bits octets.now)) result out.new }
 {
-    let mut s = t;
-    let mut i: usize = 0;
-    while i < octets.len() {
-        s = put_octet(out, s, octets[i], rows);
-        i += 1;
+    for octet in octets {
+        t = put_octet(out, t, *octet);
     }
-    s
+    t
 }
 
 // A flag, one piece of eight bits, which are not stuffed. The ones in a row begin anew behind it.
@@ -95,15 +89,8 @@ pub fn put_unit(out: &mut [u8], t: Tx, content: &[u8]) -> Tx
     requires { TxInRange t × Room t (unit_line content.now) out.old }
     ensures { Puts out.old t (unit_line content.now) 0 result out.new }
 {
-    let begin = Tx {
-        at: t.at,
-        count: t.count,
-        wait: t.wait,
-        ones: 0,
-    };
-    let rows = stuffing_table();
     let check = fcs::check_octets(content);
-    let a = put_octets(out, begin, content, &rows);
-    let b = put_octets(out, a, &check, &rows);
-    put_flag(out, b)
+    let t = put_octets(out, Tx { ones: 0, ..t }, content);
+    let t = put_octets(out, t, &check);
+    put_flag(out, t)
 }

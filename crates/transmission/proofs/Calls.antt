@@ -58,7 +58,7 @@ unfolding send_answer fill_answer
 is-done l (send content output) z = done _ _ _ z
 is-done l (fill output) z = done _ _ _ z
 
-is-refused : (l : Link) (s : Sending) → (number_of l s ≡ 0 → ⊥) → answer l s ≡ not_sent (number_of l s) l (area_of s)
+pub is-refused : (l : Link) (s : Sending) → (number_of l s ≡ 0 → ⊥) → answer l s ≡ not_sent (number_of l s) l (area_of s)
 is-refused l (send content output) z = refused-send l content output z
 is-refused l (fill output) z = refused-fill l output z
 

@@ -5,6 +5,7 @@ use mathlib.Core.Bool.{Bool, true, false}
 use mathlib.Core.List.{List, [], ◌∷◌, ◌++◌, append_assoc, append-nil}
 use native.Mathlib.Omega.{arith}
 use lib.ListN.{length, take}
+use lib.Seq.{length-take-le}
 use Rattle.bits.specs.Format.{basic}
 use Rattle.bits.specs.Octets.{bits_of, line_bits}
 use Rattle.bits.specs.Machine.{outs}
@@ -31,9 +32,7 @@ few-two l (send content output) h = tt
 few-two l (fill output) h = h
 
 take-two : (content : List ℕ) → 3 ≤ length content → length (take 2 content) ≡ 2
-take-two [] h = absurd (omega arith)
-take-two (a ∷ []) h = absurd (omega arith)
-take-two (a ∷ b ∷ cs) h = refl
+take-two content h = length-take-le 2 content (omega arith)
 
 pub two-kept : (l : Link) (s : Sending) → Two l → Put l s → Two (sent_on l s)
 two-kept l (send content output) h p =

@@ -13,7 +13,7 @@ use Rattle.output.specs.Refusals.{send_faults, fill_faults, send_number, fill_nu
 use Rattle.output.specs.Output.{first_flag, not_sent, send_answer, fill_answer}
 use Rattle.transmission.specs.Transmission.{Sending, send, fill, area_of, answer, sent_on, went_out, link_after, octets_sent, Accepted, waiting_bits, fills_first, contents}
 
--- D1.2: the faults are asked in rising number, and a refused call changes nothing.
+-- The faults are asked in rising number, and a refused call changes nothing.
 abbrev pub OutputRises : Type 0
 OutputRises = (l : Link) (content output : List ℕ) → (rising 0 (send_faults l content output) ≡ true) × (rising 0 (fill_faults l output) ≡ true)
 

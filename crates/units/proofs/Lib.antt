@@ -1,5 +1,4 @@
 -- The laws of the unit state.
 pub mod FirstFive
-pub mod Ways
 pub mod Closing
 pub mod UnitStates

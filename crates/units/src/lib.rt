@@ -2,15 +2,14 @@
 
 #![tactic(auto)]
 
-ghost use Rattle.std.specs.Prelude.{◌≡◌, ℕ, ◌+◌, ◌-◌, ◌<◌, ◌≤◌, true, false, List, [], ◌∷◌, length, take, if◌then◌else◌, ◌==◌, nat_eq, slice_index};
+ghost use Rattle.std.specs.Prelude.{◌≡◌, ℕ, ◌+◌, ◌-◌, ◌≤◌, true, List, [], ◌∷◌, take, if◌then◌else◌, ◌==◌, nat_eq};
 ghost use Rattle.bits.specs.Octets.{line_bits, packed};
-ghost use Rattle.fcs.specs.Table.{check_table};
 ghost use Rattle.memory.specs.Lent.{status_word, status_of};
-ghost use Rattle.units.specs.Units.{unit_memory, effect, unit_state_of, first_five, counted, good_unit, errored_unit, short_taken, closed_unit, broken, tick_of};
+ghost use Rattle.units.specs.Units.{unit_memory, effect, unit_state_of, begins, first_five, bare_of, hand_over, counted, good_unit, errored_unit, closed_unit, broken, tick_of};
 ghost use Rattle.units.specs.InnerFit.{Fits};
 
 use board::{Counting, Counts, Link, Settings, Slots, UnitState, limits};
-use filter::{Fate, Memory};
+use filter::Fate;
 use framing::Verdict;
 use memory::Status;
 use records::{Happening, RecordKind};
@@ -22,113 +21,149 @@ pub struct Taken {
     pub happening: Happening,
 }
 
-// The octet at a place of the first `count` octets of the area, and 0 past them.
-fn octet_at(area: &[u8; 279], count: u16, at: usize) -> u8
-    requires { at < 5 }
-    ensures { result ≡ slice_index (take count area.now) at }
-{
-    if at < count as usize {
-        return area[at];
-    }
-    0
-}
-
+// Fixed memory: the gathering area is lent whole, and `count` or `bits` says how much of it is the unit, here and below.
 // The first five of the first `count` octets of the area, zero filled.
 fn first_five(area: &[u8; 279], count: u16) -> [u8; 5]
     ensures { result ≡ first_five (take count area.now) }
 {
-    [
-        octet_at(area, count, 0),
-        octet_at(area, count, 1),
-        octet_at(area, count, 2),
-        octet_at(area, count, 3),
-        octet_at(area, count, 4),
-    ]
+    let mut first = [0; 5];
+    let shown = usize::from(count).min(5);
+    first[..shown].copy_from_slice(&area[..shown]);
+    first
 }
 
 // Whether a slot is empty.
 fn is_free(descriptors: &[u16], slot: u16) -> bool
     ensures { result ≡ (status_of descriptors.now slot == status_word Status.Empty) }
 {
-    memory::word_at(descriptors, 2 * (slot as usize)) == Link::STATUS_EMPTY
+    memory::word_at(descriptors, 2 * usize::from(slot)) == Link::STATUS_EMPTY
 }
 
 // One more good unit, and one more of its fate; each count goes round to 0 after 65,535.
 fn counted(c: Counts, fate: Fate) -> Counts
     ensures { result ≡ counted fate c }
 {
-    let good = std::num::wrapping_add_u16(c.good, 1);
+    let counts = Counts {
+        good: c.good.wrapping_add(1),
+        ..c
+    };
     match fate {
         Fate::HandedOver => Counts {
-            good: good,
-            over: std::num::wrapping_add_u16(c.over, 1),
-            dropped: c.dropped,
-            lost: c.lost,
+            over: c.over.wrapping_add(1),
+            ..counts
         },
         Fate::Dropped => Counts {
-            good: good,
-            over: c.over,
-            dropped: std::num::wrapping_add_u16(c.dropped, 1),
-            lost: c.lost,
+            dropped: c.dropped.wrapping_add(1),
+            ..counts
         },
         Fate::Lost => Counts {
-            good: good,
-            over: c.over,
-            dropped: c.dropped,
-            lost: std::num::wrapping_add_u16(c.lost, 1),
+            lost: c.lost.wrapping_add(1),
+            ..counts
         },
     }
 }
 
-// A unit state of these parts.
-fn unit_state(on: bool, left: u16, memory: Memory, next: u16, counts: Counts) -> UnitState
-    ensures { result ≡ unit_state_of (record { on = on; left = left }) memory next counts }
+// Octet counting goes on, or begins if a switch is on.
+fn counting_on(units: UnitState, switch: bool) -> UnitState
+    ensures { result ≡ unit_state_of (begins switch units.counting) units.memory units.slots.next units.counts }
 {
     UnitState {
-        counting: Counting { on: on, left: left },
-        memory: memory,
-        slots: Slots { next: next },
-        counts: counts,
+        counting: Counting {
+            on: switch | units.counting.on,
+            ..units.counting
+        },
+        ..units
     }
 }
 
-// A closed unit that is an event, errored or not.
-fn event_of(
-    kind: RecordKind,
-    lost: bool,
-    count: u16,
-    first: [u8; 5],
-    good: u16,
-    errored: bool,
-    bits: u16,
-) -> Happening
-    ensures { result ≡ record { kind = kind; lost = lost; length = count; first = first; good = good; event = true; errored = errored; bits = bits } }
+// What is no event and shows no unit.
+fn bare(kind: RecordKind, good: u16) -> Happening
+    ensures { result ≡ bare_of kind [] good 0 }
 {
     Happening {
-        kind: kind,
-        lost: lost,
-        length: count,
-        first: first,
-        good: good,
-        event: true,
-        errored: errored,
-        bits: bits,
-    }
-}
-
-// What is no event.
-fn bare_of(kind: RecordKind, count: u16, first: [u8; 5], good: u16, bits: u16) -> Happening
-    ensures { result ≡ record { kind = kind; lost = false; length = count; first = first; good = good; event = false; errored = false; bits = bits } }
-{
-    Happening {
-        kind: kind,
+        kind,
         lost: false,
-        length: count,
-        first: first,
-        good: good,
+        length: 0,
+        first: [0; 5],
+        good,
         event: false,
         errored: false,
-        bits: bits,
+        bits: 0,
+    }
+}
+
+// The unit of `count` octets at the front of the area, as it is shown where it is no event.
+fn shown(kind: RecordKind, area: &[u8; 279], count: u16, good: u16) -> Happening
+    requires { count ≤ 278 }
+    ensures { result ≡ bare_of kind (take count area.now) good 0 }
+{
+    Happening {
+        length: count,
+        first: first_five(area, count),
+        ..bare(kind, good)
+    }
+}
+
+// What happened as an errored event.
+fn errored(unit: Happening) -> Happening
+    ensures { result ≡ record unit { event = true; errored = true } }
+{
+    Happening {
+        event: true,
+        errored: true,
+        ..unit
+    }
+}
+
+// An event whose unit has no slot: with orn on, octet counting begins.
+fn lost(s: Settings, units: UnitState, event: Happening) -> Taken
+    ensures { result ≡ record { units = unit_state_of (begins s.orn units.counting) units.memory units.slots.next units.counts; happening = record event { lost = true; bits = Link.EVENT_BUSY } } }
+{
+    Taken {
+        units: counting_on(units, s.orn),
+        happening: Happening {
+            lost: true,
+            bits: Link::EVENT_BUSY,
+            ..event
+        },
+    }
+}
+
+// `Fits` is each function's `requires`: it ties settings and units to both lent areas, and a struct of `&mut` parts would want a clause on
+// the ghost name of each part in each contract.
+
+// An event whose unit goes from the front of the area to the next slot, which is empty.
+fn hand_over(
+    s: Settings,
+    units: UnitState,
+    event: Happening,
+    area: &[u8; 279],
+    status: Status,
+    pool: &mut [u8],
+    descriptors: &mut [u16],
+) -> Taken
+    requires fits { Fits s units pool.old descriptors.old }
+    requires length_bound { event.length ≤ 278 }
+    ensures { effect (unit_memory result.units pool.new descriptors.new) (result.happening ∷ []) ≡ effect (hand_over s.k status (take event.length area.now) (unit_memory units pool.old descriptors.old) units) (record event { bits = Link.EVENT_OVER } ∷ []) }
+{
+    let next = memory::store_next(
+        pool,
+        descriptors,
+        units.slots.next,
+        s.k,
+        area,
+        event.length,
+        limits::status_word(status),
+    );
+    Taken {
+        units: UnitState {
+            slots: Slots { next },
+            ..units
+        },
+        happening: Happening {
+            bits: Link::EVENT_OVER,
+            ..event
+        },
     }
 }
 
@@ -142,61 +177,44 @@ fn good_unit(
     descriptors: &mut [u16],
 ) -> Taken
     requires fits { Fits s units pool.old descriptors.old }
-    requires le_count { (5 ≤ count) × (count ≤ 278) × (length area.now ≡ 279) }
+    requires le_count { (5 ≤ count) × (count ≤ 278) }
     ensures { effect (unit_memory result.units pool.new descriptors.new) (result.happening ∷ []) ≡ good_unit s (unit_memory units pool.old descriptors.old) (take count area.now) }
 {
-    let next = units.slots.next;
-    let free = is_free(&*descriptors, next);
-    let first = first_five(area, count);
-    let mask = s.mask;
-    let memory = units.memory;
-    let settled = filter::settle(s.filter, mask, memory, count, first, free);
-    let fate = settled.fate;
-    let kept = settled.memory;
-    let counts = counted(units.counts, fate);
-    let left = units.counting.left;
-    let good = counts.good;
-    match fate {
-        Fate::HandedOver => {
-            let k = s.k;
-            let after = memory::store_next(
-                &mut *pool,
-                &mut *descriptors,
-                next,
-                k,
-                area,
-                count,
-                Link::STATUS_GOOD,
-            );
-            Taken {
-                units: unit_state(false, left, kept, after, counts),
-                happening: event_of(
-                    RecordKind::HandedOver,
-                    false,
-                    count,
-                    first,
-                    good,
-                    false,
-                    Link::EVENT_OVER,
-                ),
-            }
-        }
+    let unit = shown(RecordKind::HandedOver, area, count, units.counts.good);
+    let free = is_free(descriptors, units.slots.next);
+    let settled = filter::settle(s.filter, s.mask, units.memory, count, unit.first, free);
+    let counts = counted(units.counts, settled.fate);
+    let ended = UnitState {
+        counting: Counting {
+            on: false,
+            ..units.counting
+        },
+        memory: settled.memory,
+        counts,
+        ..units
+    };
+    let event = Happening {
+        good: counts.good,
+        event: true,
+        ..unit
+    };
+    match settled.fate {
+        Fate::HandedOver => hand_over(s, ended, event, area, Status::Good, pool, descriptors),
         Fate::Dropped => Taken {
-            units: unit_state(false, left, kept, next, counts),
-            happening: event_of(RecordKind::Dropped, false, count, first, good, false, 0),
+            units: ended,
+            happening: Happening {
+                kind: RecordKind::Dropped,
+                ..event
+            },
         },
-        Fate::Lost => Taken {
-            units: unit_state(s.orn, left, kept, next, counts),
-            happening: event_of(
-                RecordKind::Lost,
-                true,
-                count,
-                first,
-                good,
-                false,
-                Link::EVENT_BUSY,
-            ),
-        },
+        Fate::Lost => lost(
+            s,
+            ended,
+            Happening {
+                kind: RecordKind::Lost,
+                ..event
+            },
+        ),
     }
 }
 
@@ -212,44 +230,18 @@ fn errored_unit(
     descriptors: &mut [u16],
 ) -> Taken
     requires fits { Fits s units pool.old descriptors.old }
-    requires count_bound { (count ≤ 278) × (length area.now ≡ 279) }
+    requires count_bound { count ≤ 278 }
     ensures { effect (unit_memory result.units pool.new descriptors.new) (result.happening ∷ []) ≡ errored_unit s (unit_memory units pool.old descriptors.old) status kind (take count area.now) }
 {
-    let next = units.slots.next;
-    let first = first_five(area, count);
-    let counting = units.counting;
-    let memory = units.memory;
-    let counts = units.counts;
-    let good = counts.good;
-    if is_free(&*descriptors, next) {
-        let k = s.k;
-        let word = limits::status_word(status);
-        let after = memory::store_next(&mut *pool, &mut *descriptors, next, k, area, count, word);
-        return Taken {
-            units: unit_state(counting.on, counting.left, memory, after, counts),
-            happening: event_of(kind, false, count, first, good, true, Link::EVENT_OVER),
-        };
-    }
-    Taken {
-        units: unit_state(s.orn | counting.on, counting.left, memory, next, counts),
-        happening: event_of(kind, true, count, first, good, true, Link::EVENT_BUSY),
+    let event = errored(shown(kind, area, count, units.counts.good));
+    if is_free(descriptors, units.slots.next) {
+        hand_over(s, units, event, area, status, pool, descriptors)
+    } else {
+        lost(s, units, event)
     }
 }
 
-// A short unit: its record only.
-fn short_unit(units: UnitState, area: &[u8; 279], count: u16) -> Taken
-    requires { (count ≤ 278) × (length area.now ≡ 279) }
-    ensures { result ≡ short_taken units (take count area.now) }
-{
-    let first = first_five(area, count);
-    let good = units.counts.good;
-    Taken {
-        units: units,
-        happening: bare_of(RecordKind::Short, count, first, good, 0),
-    }
-}
-
-// A closed unit of `bits` bits at the front of the area, by its verdict, with the check's table.
+// A closed unit of `bits` bits at the front of the area, by its verdict.
 pub fn closed_unit(
     s: Settings,
     units: UnitState,
@@ -257,17 +249,17 @@ pub fn closed_unit(
     bits: u16,
     pool: &mut [u8],
     descriptors: &mut [u16],
-    table: &[u16; 1024],
 ) -> Taken
     requires fits { Fits s units pool.old descriptors.old }
     requires bits_bound { (bits ≤ 2224) × (area.now ≡ packed 279 (take (bits + 7) (line_bits area.now))) }
-    requires table_value { table.now ≡ check_table }
     ensures { effect (unit_memory result.units pool.new descriptors.new) (result.happening ∷ []) ≡ closed_unit s (unit_memory units pool.old descriptors.old) (take bits (line_bits area.now)) }
 {
-    let verdict = framing::unit::verdict(area, bits, table);
     let count = bits / 8;
-    match verdict {
-        Verdict::Short => short_unit(units, area, count),
+    match framing::unit::verdict(area, bits) {
+        Verdict::Short => Taken {
+            units,
+            happening: shown(RecordKind::Short, area, count, units.counts.good),
+        },
         Verdict::NotWhole => errored_unit(
             s,
             units,
@@ -275,8 +267,8 @@ pub fn closed_unit(
             count,
             Status::NotWhole,
             RecordKind::NotWhole,
-            &mut *pool,
-            &mut *descriptors,
+            pool,
+            descriptors,
         ),
         Verdict::CheckWrong => errored_unit(
             s,
@@ -285,10 +277,10 @@ pub fn closed_unit(
             count,
             Status::CheckWrong,
             RecordKind::CheckWrong,
-            &mut *pool,
-            &mut *descriptors,
+            pool,
+            descriptors,
         ),
-        Verdict::Good => good_unit(s, units, area, count, &mut *pool, &mut *descriptors),
+        Verdict::Good => good_unit(s, units, area, count, pool, descriptors),
     }
 }
 
@@ -296,14 +288,12 @@ pub fn closed_unit(
 pub fn break_off(s: Settings, units: UnitState, kind: RecordKind, bits: u16) -> Taken
     ensures { (pool descriptors : List ℕ) → effect (unit_memory result.units pool descriptors) (result.happening ∷ []) ≡ broken s (unit_memory units pool descriptors) kind bits }
 {
-    let counting = units.counting;
-    let memory = units.memory;
-    let counts = units.counts;
-    let next = units.slots.next;
-    let good = counts.good;
     Taken {
-        units: unit_state(s.itu | counting.on, counting.left, memory, next, counts),
-        happening: bare_of(kind, 0, [0; 5], good, bits),
+        units: counting_on(units, s.itu),
+        happening: Happening {
+            bits,
+            ..bare(kind, units.counts.good)
+        },
     }
 }
 
@@ -312,10 +302,7 @@ pub fn count_down(n: u16, left: u16) -> u16
     requires { 1 ≤ left }
     ensures { result ≡ (if nat_eq left 1 then n else left - 1) }
 {
-    if left == 1 {
-        return n;
-    }
-    left - 1
+    if left == 1 { n } else { left - 1 }
 }
 
 // The tick of octet counting.
@@ -323,13 +310,7 @@ pub fn tick(good: u16) -> Happening
     ensures { result ≡ tick_of good }
 {
     Happening {
-        kind: RecordKind::Tick,
-        lost: false,
-        length: 0,
-        first: [0; 5],
-        good: good,
-        event: true,
-        errored: true,
         bits: Link::EVENT_OCTET,
+        ..errored(bare(RecordKind::Tick, good))
     }
 }

@@ -3,7 +3,7 @@ use borrow.Author.Rules.{rules}
 use Rattle.check_prefixes.proofs.Parts.{read-more}
 use Rattle.check_prefixes.proofs.read_full.Goals as goal
 
-pub loop-done-preserved : goal.loop-done-preserved
-loop-done-preserved g c =
-    let l = c.loop-done in
-    (search rules, search rules, read-more _ _ _ l.buf c.read.new.buf l.done c.in-Ok.n l.invariant.0 c.in-Ok.ensures.bound.0 l.invariant.2 c.in-Ok.ensures.bytes.0)
+pub loop-n-preserved : goal.loop-n-preserved
+loop-n-preserved g c =
+    let l = c.loop-n in
+    (search rules, read-more _ _ _ l.buf c.read.new.buf l.done c.in-Ok-1-to-max.n l.invariant.0 c.in-Ok-1-to-max.ensures.bound.0 l.invariant.1 c.in-Ok-1-to-max.ensures.bytes.0)

@@ -1,44 +1,33 @@
--- `fcs::check_by_table` meets its contract: the octets that are left, fed to the register, give the whole, and the table's words are those of the octets' bits.
-use Prim.Native.Nat.{◌+◌}
+-- `fcs::check_by_table` meets its contract: the octets that are left, fed to the register, give the whole.
 use native.Mathlib.Omega.{arith}
-use lib.Dec.{lit≤}
 use lib.ListN.{get_or}
-use Rattle.fcs.proofs.Rest.{next, done}
+use Rattle.std.proofs.lemmas.List.{take_rest}
+use Rattle.fcs.proofs.Rest.{start, next, done}
 use Rattle.fcs.proofs.Octetwise.{octet-by-lent}
-use Rattle.fcs.proofs.Fours.{high_lt, start-within, next-four, in_table}
+use Rattle.fcs.proofs.Fours.{next-four}
 use Rattle.fcs.proofs.check_by_table.Goals as goal
 
-pub loop-at-init : goal.loop-at-init
-loop-at-init c = start-within c.args.octets.now
+pub loop-left-init : goal.loop-left-init
+loop-left-init c = (omega arith, start c.args.octets.now)
 
-pub overflow_sub-octets : goal.overflow_sub-octets
-overflow_sub-octets c = c.loop-at.invariant.1.0
+pub loop-left-preserved : goal.loop-left-preserved
+loop-left-preserved c =
+    let l = c.loop-left in
+    rw (c.from-in-len4-up-2.ensures, c.from-in-len4-up-3.ensures, c.from-in-len4-up-4.ensures, c.from-in-len4-up-5.ensures, c.from.ensures, c.from-in-len4-up.ensures, take_rest l.left.now 4)
+    (next-four c.args.octets.now c.args.table.now c.requires l.register l.left.now c.in-len4-up.len_at_least l.invariant.0
+    (omega arith) (omega arith) (omega arith) l.invariant.1)
 
-pub bounds-table-high : goal.bounds-table-high
-bounds-table-high c =
-    let l = c.loop-at in
-    in_table 512 _ (lit≤ tt) (high_lt l.register (get_or c.args.octets.now (l.at + 1) 0) l.invariant.0 (omega arith))
+pub loop-octet-init : goal.loop-octet-init
+loop-octet-init c = c.loop-left.invariant.1
 
-pub loop-at-preserved : goal.loop-at-preserved
-loop-at-preserved c =
-    let l = c.loop-at in
-    next-four c.args.octets.now c.args.table.now l.register l.at c.requires (omega arith) (omega arith) (omega arith) (omega arith) l.invariant
-
-pub loop-at-2-init : goal.loop-at-2-init
-loop-at-2-init c = c.loop-at.invariant.1
-
-pub bounds-octets-at-in-loop-at-2-2 : goal.bounds-octets-at-in-loop-at-2-2
-bounds-octets-at-in-loop-at-2-2 c = c.loop-at-2-test.true
-
-pub loop-at-2-preserved : goal.loop-at-2-preserved
-loop-at-2-preserved c =
-    let l = c.loop-at-2 in
-    let b = c in
-    let s = b.args.octets.now in
-    next s l.register l.at _ c.loop-at-2-test.true
-    (octet-by-lent b.args.table.now b.requires l.register (get_or s l.at 0)) l.invariant
+pub loop-octet-preserved : goal.loop-octet-preserved
+loop-octet-preserved c =
+    let l = c.loop-octet in
+    let t = c.loop-left.left.now in
+    next c.args.octets.now t l.register l.octet-index _ c.loop-octet-test.true
+    (rw (c.from-in-loop-octet-2.ensures, c.from-in-loop-octet.ensures) (octet-by-lent c.args.table.now c.requires l.register (get_or t l.octet-index 0))) l.invariant
 
 pub returns : goal.returns
 returns c =
-    let l = c.loop-at-2 in
-    done c.args.octets.now l.register l.at (omega arith) l.invariant
+    let l = c.loop-octet in
+    done c.args.octets.now c.loop-left.left.now l.register l.octet-index c.loop-octet-test.false l.invariant

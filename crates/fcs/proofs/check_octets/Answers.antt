@@ -1,17 +1,15 @@
 -- `fcs::check_octets` meets its contract.
-use mathlib.Core.Path.{ap}
-use mathlib.Core.List.{[], ◌∷◌}
-use Prim.Native.Nat.{ℕ, ◌/◌, ◌%◌, ◌^◌, ◌<◌}
+use mathlib.Core.Path.{◌≡◌, refl}
+use Prim.Native.Nat.{◌/◌, ◌%◌, ◌^◌, ◌<◌}
 use native.Mathlib.Omega.{arith}
 use lib.Bits.{bit_xor, xor_lt}
 use Rattle.fcs.specs.Check.{check_octets}
 use Rattle.fcs.proofs.check_octets.Goals as goal
 
-pub overflow_cast-result-2 : goal.overflow_cast-result-2
-overflow_cast-result-2 c =
-    let r : c.check_content-c.result < 2 ^ 16 = c.check_content-c.type_inv in
-    record { fits = omega (arith, xor_lt 16 c.check_content-c.result 65535 r (omega arith)) }
-
 pub returns : goal.returns
 unfolding check_octets
-returns c = ap (λ (k : ℕ). bit_xor k 65535 % 256 ∷ bit_xor k 65535 / 256 ∷ []) c.check_content-c.ensures
+returns c =
+    let x = bit_xor c.check_content.result 65535 in
+    let n : x < 2 ^ 16 = xor_lt 16 c.check_content.result 65535 c.check_content.type_inv (omega arith) in
+    let high : x / 256 % 256 ≡ x / 256 = omega arith in
+    rw (c.to_le_bytes.ensures, high, c.check_content.ensures) refl

@@ -14,14 +14,14 @@ told : (c : After-is_dropped) (u : List ℕ)
     → let s = c.args in
     length u ≡ s.octets → take (fill_in_octets basic) u ≡ s.first
     → Found basic s.on s.mask s.memory u s.octets c.kind_of-kind.result c.masked_unit-five.result
-    c.holds_like-like.result c.is_dropped.result
+    c.holds_like.result c.is_dropped.result
 told c u h t =
     let s = c.args in
     let wide : length s.mask ≡ 5 = search rules in
     found basic s.on s.mask s.memory u s.first s.octets c.masked_unit-five.result wide h t
     (c.kind_of-kind.ensures u h)
     c.masked_unit-five.ensures
-    c.holds_like-like.ensures
+    c.holds_like.ensures
     c.is_dropped.ensures
 
 pub returns-then-is_dropped : goal.returns-then-is_dropped
@@ -29,8 +29,8 @@ returns-then-is_dropped c u h t = goes_dropped basic _ _ _ _ (told c.before u h 
 
 pub returns-then-free : goal.returns-then-free
 returns-then-free c u h t =
-    goes_over basic _ _ _ _ (told c.before.before.before u h t) c.if-is_dropped.false c.if-free.true c.remembered-kept.ensures
+    goes_over basic _ _ _ _ (told c.before.before.before u h t) c.if-is_dropped.false c.if-free.true c.remembered.ensures
 
 pub returns : goal.returns
 returns c u h t =
-    goes-lost basic _ _ _ _ (told c.before.before.before u h t) c.if-is_dropped.false c.if-free.false c.empty-empty.ensures
+    goes-lost basic _ _ _ _ (told c.before.before.before u h t) c.if-is_dropped.false c.if-free.false c.empty.ensures

@@ -1,24 +1,12 @@
--- `indications::end_octet` meets its contract: a tick, or none.
-use Rattle.indications.proofs.Ends.{tick-way, not-counting, not-due}
+-- `indications::end_octet` meets its contract: a tick where the counter ends in octet counting, or none.
+use Rattle.std.proofs.Common.{rules, eqb, ◌&&◌, ◌≡◌}
+use Rattle.indications.proofs.Ends.{octet-ended}
 use Rattle.indications.proofs.end_octet.Goals as goal
+use Rattle.indications.proofs.end_octet.Goals.{then-counting-eq1, else-counting-eq1}
 
-pub returns-then-counting : goal.returns-then-counting
-returns-then-counting c =
-    let k = c in
-    let q = c in
-    let t = c in
-    let s = c in
-    tick-way s.args.s s.args.p k.count_down-left.result k.count_down-left.ensures s.args.out.now q.note_and_record.new.out t.tick-happening.result q.note_and_record.result
-    t.if-counting-eq1.true t.if-counting.true t.tick-happening.ensures q.note_and_record.ensures
-
-pub returns-else-counting : goal.returns-else-counting
-returns-else-counting c =
-    let k = c in
-    let s = c in
-    not-counting s.args.s s.args.p k.count_down-left.result k.count_down-left.ensures s.args.out.now c.if-counting-eq1.true c.if-counting.false
-
-pub returns-else-counting-eq1 : goal.returns-else-counting-eq1
-returns-else-counting-eq1 c =
-    let k = c in
-    let s = c in
-    not-due s.args.s s.args.p k.count_down-left.result k.count_down-left.ensures s.args.out.now c.if-counting-eq1.false
+pub returns : goal.returns
+returns c pool descriptors =
+    let d = c.args.p.units.counting in
+    let due : c.if-counting-eq1.ticks ≡ (eqb d.left 1 && d.on) = elim c.if-counting-eq1.branch [ then-counting-eq1 w ↦ search rules | else-counting-eq1 w ↦ search rules ] in
+    octet-ended c.args.s c.args.p c.count_down-left.result c.count_down-left.ensures pool descriptors c.args.out.now c.move_counter.result c.move_counter.new.out
+    c.if-counting-eq1.ticks due c.move_counter.ensures

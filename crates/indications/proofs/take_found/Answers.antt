@@ -1,77 +1,18 @@
 -- `indications::take_found` meets its contract, finding by finding.
-use Rattle.indications.proofs.Findings.{nothing-way, closed-way, abort-way, long-way, stands, clear-area}
-use native.Mathlib.Omega.{arith}
+use Rattle.std.proofs.Common.{◌≡◌, [], ◌∷◌}
+use Rattle.units.specs.Units.{effect, unit_memory}
+use Rattle.indications.proofs.Findings.{effect_shown, found-done}
 use Rattle.indications.proofs.take_found.Goals as goal
+use Rattle.indications.proofs.take_found.Goals.{in-Closed, in-Abort, in-Long}
 
-pub closed_unit-taken-requires : goal.closed_unit-taken-requires
-closed_unit-taken-requires c =
-    let s = c in
-    let d = c in
-    record { fits = s.requires.able.fits; bits_bound = stands s.args.found d.in-Closed.bits s.args.area.now d.in-Closed.is s.requires.stands_in; table_value = s.requires.table_value }
-
-pub overflow_add-bits : goal.overflow_add-bits
-overflow_add-bits c =
-    let s = c in
-    let d = c in
-    omega (arith, (stands s.args.found d.in-Closed.bits s.args.area.now d.in-Closed.is s.requires.stands_in).0)
-
-pub clear-requires : goal.clear-requires
-clear-requires c =
-    let s = c in
-    let d = c in
-    let w = stands s.args.found d.in-Closed.bits s.args.area.now d.in-Closed.is s.requires.stands_in in
-    record { bits_bound = omega (arith, w.0); area_value = w.1 }
-
-pub note_and_record-requires : goal.note_and_record-requires
-note_and_record-requires c =
-    let s = c in
-    (s.requires.able.settings, s.requires.able.monitor, s.requires.able.room)
-
-pub note_and_record-requires-in-Abort : goal.note_and_record-requires-in-Abort
-note_and_record-requires-in-Abort c =
-    let s = c in
-    (s.requires.able.settings, s.requires.able.monitor, s.requires.able.room)
-
-pub note_and_record-requires-in-Long : goal.note_and_record-requires-in-Long
-note_and_record-requires-in-Long c =
-    let s = c in
-    (s.requires.able.settings, s.requires.able.monitor, s.requires.able.room)
-
-pub returns-in-Nothing : goal.returns-in-Nothing
-returns-in-Nothing c =
+pub returns-clause-out_after : goal.returns-clause-out_after
+returns-clause-out_after c =
     let a = c.args in
-    record { out_after = nothing-way a.s a.p a.found a.area.now a.pool.now a.descriptors.now a.out.now c.in-Nothing.is; area_after = rw c.in-Nothing.is }
-
-pub returns-in-Closed : goal.returns-in-Closed
-returns-in-Closed c =
-    let u = c in
-    let k = c in
-    let q = c in
-    let d = c in
-    let a = c.args in record {
-      out_after = closed-way a.s a.p a.found a.area.now a.pool.now a.descriptors.now a.out.now u.closed_unit-taken.result u.closed_unit-taken.new.pool u.closed_unit-taken.new.descriptors
-          q.note_and_record.result q.note_and_record.new.out q.note_and_record.ensures d.in-Closed.bits d.in-Closed.is u.closed_unit-taken.ensures;
-      area_after = clear-area a.found d.in-Closed.bits a.area.now k.clear.new.area d.in-Closed.is k.clear.ensures;
-    }
-
-pub returns-in-Abort : goal.returns-in-Abort
-returns-in-Abort c =
-    let u = c in
-    let q = c in
-    let d = c in
-    let a = c.args in record {
-      out_after = abort-way a.s a.p a.found a.area.now a.pool.now a.descriptors.now a.out.now u.break_off-taken.result a.pool.now a.descriptors.now
-          q.note_and_record-in-Abort.result q.note_and_record-in-Abort.new.out q.note_and_record-in-Abort.ensures d.in-Abort.is (u.break_off-taken.ensures a.pool.now a.descriptors.now);
-      area_after = rw d.in-Abort.is;
-    }
-
-pub returns-in-Long : goal.returns-in-Long
-returns-in-Long c =
-    let u = c in
-    let q = c in
-    let d = c in
-    let a = c.args in record {
-      out_after = long-way a.s a.p a.found a.area.now a.pool.now a.descriptors.now a.out.now u.break_off-taken-in-Long.result a.pool.now a.descriptors.now
-          q.note_and_record-in-Long.result q.note_and_record-in-Long.new.out q.note_and_record-in-Long.ensures d.in-Long.is (u.break_off-taken-in-Long.ensures a.pool.now a.descriptors.now);
-      area_after = rw d.in-Long.is;
-    }
+    let m = c.match-found in
+    let d : effect (unit_memory m.taken.units m.pool m.descriptors) (m.taken.happening ∷ []) ≡ effect_shown a.s (unit_memory a.p.units a.pool.now a.descriptors.now) a.area.now a.found =
+    elim m.branch [
+      | in-Closed w ↦ rw (w.in-Closed.is, w.pool-is, w.descriptors-is, w.taken-is) w.closed_unit-taken.ensures
+      | in-Abort w ↦ rw (w.in-Abort.is, w.pool-is, w.descriptors-is, w.taken-is) (w.break_off-taken.ensures a.pool.now a.descriptors.now)
+      | in-Long w ↦ rw (w.in-Long.is, w.pool-is, w.descriptors-is, w.taken-is) (w.break_off-taken-in-Long.ensures a.pool.now a.descriptors.now)
+    ] in
+    found-done a.s a.p a.area.now a.pool.now a.descriptors.now a.out.now m.taken m.pool m.descriptors c.note_and_record.result c.note_and_record.new.out c.note_and_record.ensures a.found d

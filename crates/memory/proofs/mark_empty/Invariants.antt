@@ -1,12 +1,8 @@
--- `memory::mark_empty` meets its contract: the words of empty slots are written one after the other.
-use Prim.Native.Nat.{◌-◌}
-use lib.ListN.{length}
+-- `memory::mark_empty` meets its contract: the two words of each slot so far are those of empty slots.
+use Prim.Native.Nat.{◌*◌}
 use Rattle.memory.specs.Lent.{empty_descriptors}
 use Rattle.memory.proofs.Loops.{Written}
 use Rattle.memory.proofs.mark_empty.Given as goal
 
-abbrev pub invariant-loop-i : goal.invariant-loop-i
-invariant-loop-i l = Written (empty_descriptors l.k) l.initial.descriptors l.descriptors l.i
-
-abbrev pub decreases-loop-i : goal.decreases-loop-i
-decreases-loop-i l = length l.initial.descriptors - l.i
+abbrev pub invariant-loop-each : goal.invariant-loop-each
+invariant-loop-each l = Written (empty_descriptors l.k) l.initial.descriptors l.descriptors (2 * l.each)

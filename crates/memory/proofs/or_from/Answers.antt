@@ -1,17 +1,13 @@
--- `memory::or_from` meets its contract: the or so far and what is left decide.
-use mathlib.Core.Path.{refl, ◌∙◌}
-use Rattle.memory.proofs.Loops.{or-next, or-ends}
+-- `memory::or_from` meets its contract: all octets from there on or-ed decide.
+use Rattle.std.proofs.Common.{rules, ◌≡◌, ◌-◌, bit_or, take, drop, length}
+use Rattle.std.specs.List.{fold}
+use Rattle.memory.proofs.Loops.{or_fold}
+use Rattle.memory.proofs.Places.{from-on}
 use Rattle.memory.proofs.or_from.Goals as goal
-
-pub loop-i-init : goal.loop-i-init
-loop-i-init c = refl
-
-pub loop-i-preserved : goal.loop-i-preserved
-loop-i-preserved c =
-    let l = c in
-    or-next l.args.octets.now l.loop-i.i l.loop-i.all c.loop-i-test.true ∙ l.loop-i.invariant
 
 pub returns : goal.returns
 returns c =
-    let l = c in
-    or-ends l.args.octets.now l.loop-i.i l.loop-i.all c.loop-i-test.false ∙ l.loop-i.invariant
+    let l = c.args.octets.now in
+    let m = c.min.result in
+    let e : c.fold.result ≡ fold bit_or 0 (take (length l - m) (drop m l)) = search rules in
+    rw (e, from-on l c.args.from m c.min.ensures) (or_fold 0 (drop c.args.from l))

@@ -7,9 +7,5 @@ use Rattle.memory.proofs.store.Goals as goal
 
 pub returns : goal.returns
 returns c =
-    let f = c in
-    let o = f in
-    let b = o in
-    let s = b in
-    let e = f.fill_slot.ensures ∙ ap (filled basic) o.first_octets-unit.ensures.0 in
-    (put-slot s.args.pool.now s.args.slot b.start_of-from.result b.start_of-from.ensures e, c.describe.ensures)
+    let e = c.fill_slot.ensures ∙ ap (filled basic) c.first_octets-unit.ensures.0 in
+    (put-slot c.args.pool.now c.args.slot c.start_of-from.result c.start_of-from.ensures e, c.describe.ensures)

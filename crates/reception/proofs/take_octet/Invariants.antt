@@ -3,10 +3,10 @@ use Rattle.indications.specs.InnerWriting.{holding}
 use Rattle.reception.proofs.Octets.{Between}
 use Rattle.reception.proofs.take_octet.Given as goal
 
-abbrev pub invariant-loop-left : goal.invariant-loop-left
-invariant-loop-left l =
-    Between l.s l.initial.cur l.initial.area l.octet (holding l.initial.q l.initial.pool l.initial.descriptors l.initial.out) l.area l.pool l.descriptors l.out l.cur l.rest l.left l.q
+abbrev pub invariant-loop-fed : goal.invariant-loop-fed
+invariant-loop-fed l =
+    Between l.s l.fn.line l.fn.area l.octet (holding l.fn.p l.fn.pool l.fn.descriptors l.fn.out) l.area l.pool l.descriptors l.out
+    l.fed.step.line l.fed.octet l.fed.left l.q
 
-abbrev pub decreases-loop-left : goal.decreases-loop-left
-decreases-loop-left l =
-    l.left
+abbrev pub decreases-loop-fed : goal.decreases-loop-fed
+decreases-loop-fed l = l.fed.left

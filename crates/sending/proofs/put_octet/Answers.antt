@@ -1,6 +1,6 @@
 -- `sending::put_octet` meets its contract: the row of the ones in a row and the octet gives the piece.
-use Prim.Native.Nat.{ℕ}
-use mathlib.Core.Path.{sym, subst, subst₂}
+use Prim.Native.Nat.{ℕ, ◌+◌, ◌*◌}
+use mathlib.Core.Path.{sym, ap₂, subst, subst₂}
 use mathlib.Core.Bool.{Bool}
 use mathlib.Core.List.{List}
 use native.Mathlib.Omega.{arith}
@@ -8,20 +8,24 @@ use Rattle.sending.specs.InnerPutting.{Puts, Room}
 use Rattle.sending.proofs.Rows.{row-says}
 use Rattle.sending.proofs.put_octet.Goals as goal
 
+-- the row's place
+abbrev place : ℕ → ℕ → ℕ
+place ones octet = ones * 256 + octet
+
 pub overflow_cast-row : goal.overflow_cast-row
 overflow_cast-row c =
-    let s = c in
-    let w = row-says s.args.rows.now s.args.t.ones s.args.octet s.requires.rows_value s.requires.tx_in_range.0.short (omega arith) in
+    let w = row-says c.stuffing_table.result.now c.args.t.ones c.args.octet _ c.stuffing_table.ensures (ap₂ place c.from.ensures c.from-2.ensures) c.requires.0.short (omega arith) in
     omega (arith, w.short)
 
 pub put_piece-requires : goal.put_piece-requires
 put_piece-requires c =
-    let s = c in
-    let w = row-says s.args.rows.now s.args.t.ones s.args.octet s.requires.rows_value s.requires.tx_in_range.0.short (omega arith) in record { tx_in_range = (s.requires.tx_in_range.0, subst (λ (x : List Bool). Room s.args.t x s.args.out.now) (sym w.piece) s.requires.tx_in_range.1); piece_bound = (w.small, omega arith, omega (arith, w.few)) }
+    let w = row-says c.stuffing_table.result.now c.args.t.ones c.args.octet _ c.stuffing_table.ensures (ap₂ place c.from.ensures c.from-2.ensures) c.requires.0.short (omega arith) in record {
+      tx_in_range = (c.requires.0, subst (λ (x : List Bool). Room c.args.t x c.args.out.now) (sym w.piece) c.requires.1);
+      piece_bound = (w.small, omega arith, omega (arith, w.few));
+    }
 
 pub returns : goal.returns
 returns c =
-    let s = c in
     let p = c.put_piece in
-    let w = row-says s.args.rows.now s.args.t.ones s.args.octet s.requires.rows_value s.requires.tx_in_range.0.short (omega arith) in
-    subst₂ (λ (x : List Bool) (n : ℕ). Puts s.args.out.now s.args.t x n p.result p.new.out) w.piece w.then p.ensures
+    let w = row-says c.stuffing_table.result.now c.args.t.ones c.args.octet _ c.stuffing_table.ensures (ap₂ place c.from.ensures c.from-2.ensures) c.requires.0.short (omega arith) in
+    subst₂ (λ (x : List Bool) (n : ℕ). Puts c.args.out.now c.args.t x n p.result p.new.out) w.piece w.then p.ensures

@@ -2,40 +2,29 @@
 use Rattle.sending.proofs.Units.{content-room, check-room, flag-room, unit-put}
 use Rattle.sending.proofs.put_unit.Goals as goal
 
-pub put_octets-a-requires : goal.put_octets-a-requires
-put_octets-a-requires c =
-    let s = c in
+pub put_octets-t-requires : goal.put_octets-t-requires
+put_octets-t-requires c =
     let check = c.check_octets-check in
-    record { tx_in_range = content-room s.args.out.now s.args.t s.args.content.now check.result check.ensures s.requires.0 s.requires.1; rows_value = c.stuffing_table-rows.ensures }
+    content-room c.args.out.now c.args.t c.args.content.now check.result check.ensures c.requires.0 c.requires.1
 
-pub put_octets-b-requires : goal.put_octets-b-requires
-put_octets-b-requires c =
-    let a = c in
-    let s = a in
-    let check = a.check_octets-check in record {
-      tx_in_range = check-room s.args.out.now s.args.t s.args.content.now check.result check.ensures s.requires.0 s.requires.1
-          a.put_octets-a.result a.put_octets-a.new.out a.put_octets-a.ensures;
-      rows_value = a.stuffing_table-rows.ensures;
-    }
+pub put_octets-t-requires-2 : goal.put_octets-t-requires-2
+put_octets-t-requires-2 c =
+    let check = c.check_octets-check in
+    let a = c.put_octets-t in
+    check-room c.args.out.now c.args.t c.args.content.now check.result check.ensures c.requires.0 c.requires.1 a.result a.new.out a.ensures
 
 pub put_flag-requires : goal.put_flag-requires
 put_flag-requires c =
-    let b = c in
-    let a = b in
-    let s = a in
-    let check = a.check_octets-check in
-    flag-room s.args.out.now s.args.t s.args.content.now check.result check.ensures s.requires.0 s.requires.1
-    a.put_octets-a.result a.put_octets-a.new.out a.put_octets-a.ensures
-    b.put_octets-b.result b.put_octets-b.new.out b.put_octets-b.ensures
+    let check = c.check_octets-check in
+    let a = c.put_octets-t in
+    let b = c.put_octets-t-2 in
+    flag-room c.args.out.now c.args.t c.args.content.now check.result check.ensures c.requires.0 c.requires.1
+    a.result a.new.out a.ensures b.result b.new.out b.ensures
 
 pub returns : goal.returns
 returns c =
-    let e = c in
-    let b = e in
-    let a = b in
-    let s = a in
-    let check = a.check_octets-check in
-    unit-put s.args.out.now s.args.t s.args.content.now check.result check.ensures s.requires.0 s.requires.1
-    a.put_octets-a.result a.put_octets-a.new.out a.put_octets-a.ensures
-    b.put_octets-b.result b.put_octets-b.new.out b.put_octets-b.ensures
-    e.put_flag.result e.put_flag.new.out e.put_flag.ensures
+    let check = c.check_octets-check in
+    let a = c.put_octets-t in
+    let b = c.put_octets-t-2 in
+    unit-put c.args.out.now c.args.t c.args.content.now check.result check.ensures c.requires.0 c.requires.1
+    a.result a.new.out a.ensures b.result b.new.out b.ensures c.put_flag.result c.put_flag.new.out c.put_flag.ensures

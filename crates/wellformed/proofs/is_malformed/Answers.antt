@@ -4,10 +4,8 @@ use mathlib.Core.Bool.{not}
 use Rattle.board.proofs.Ranges.{when-open, when-closed}
 use Rattle.wellformed.proofs.is_malformed.Goals as goal
 
-pub returns-then-opened : goal.returns-then-opened
-returns-then-opened c =
-    let a = c.args in
-    c.open_malformed.ensures a.opened a.units.memory a.units.counts a.supervision.events ∙ sym (when-open _ c.if-opened.true)
+pub returns-then-link : goal.returns-then-link
+returns-then-link c = c.open_malformed.ensures ∙ sym (when-open _ c.if-link.true)
 
-pub returns : goal.returns
-returns c = ap not (c.is_new.ensures c.args.opened) ∙ sym (when-closed _ c.if-opened.false)
+pub returns-else-link : goal.returns-else-link
+returns-else-link c = ap not c.is_new.ensures ∙ sym (when-closed _ c.if-link.false)

@@ -11,47 +11,31 @@ use Rattle.framing.specs.Representation.{decode}
 use Rattle.framing.proofs.Readings.{quiet-round, loud-round, at-end}
 use Rattle.framing.proofs.delimit.feed.Goals as goal
 
-pub loop-left-init : goal.loop-left-init
-loop-left-init c = (c.requires.m_bound.1, c.requires.well_formed, refl)
-
-pub step_bit-s-requires : goal.step_bit-s-requires
-step_bit-s-requires c = record { m_bound = c.requires.m_bound.0; well_formed = c.loop-left.invariant.1 }
-
-pub overflow_sub-left : goal.overflow_sub-left
-overflow_sub-left c = c.loop-left-test.true
-
 -- the next bit is read first
-first : (m : ℕ) (s : Receiver) (left rest : ℕ) (goal : Reading) → 0 < left → reading m s (bits_of left rest) ≡ goal
-    → reading m s (odd rest ∷ bits_of (left - 1) (rest / 2)) ≡ goal
-first m s left rest goal h e = sym (ap (reading m s) (bits-cons left rest h)) ∙ e
-
-pub returns-then-is_found : goal.returns-then-is_found
-returns-then-is_found c =
-    let d = c in
-    let p = d.loop-left in
-    let a = d.args in
-    let goal = reading a.m (decode a.line a.area.now) (bits_of a.bits a.octet) in
-    let t = d.loop-left-test.true in
-    loud-round a.m goal p.cur p.area (odd p.rest) (bits_of (p.left - 1) (p.rest / 2))
-    (first a.m (decode p.cur p.area) p.left p.rest goal t p.invariant.2)
-    d.step_bit-s.result d.step_bit-s.new.area d.step_bit-s.ensures
-    (sym c.is_found.ensures ∙ c.if-is_found.true) (p.rest / 2) (p.left - 1) refl (omega (arith, p.invariant.0))
-
-pub loop-left-smaller : goal.loop-left-smaller
-loop-left-smaller c = omega (arith, c.loop-left-test.true)
+first : (m : ℕ) (s : Receiver) (left octet : ℕ) (goal : Reading) → 0 < left → reading m s (bits_of left octet) ≡ goal
+    → reading m s (odd octet ∷ bits_of (left - 1) (octet / 2)) ≡ goal
+first m s left octet goal h e = sym (ap (reading m s) (bits-cons left octet h)) ∙ e
 
 pub loop-left-preserved : goal.loop-left-preserved
 loop-left-preserved c =
-    let d = c in
-    let p = d.loop-left in
-    let a = d.args in
+    let p = c.loop-left in
+    let a = c.args in
     let goal = reading a.m (decode a.line a.area.now) (bits_of a.bits a.octet) in
-    let t = d.loop-left-test.true in
-    let w = quiet-round a.m goal p.cur p.area (odd p.rest) (bits_of (p.left - 1) (p.rest / 2))
-    (first a.m (decode p.cur p.area) p.left p.rest goal t p.invariant.2)
-    d.step_bit-s.result d.step_bit-s.new.area d.step_bit-s.ensures
-    (sym c.is_found.ensures ∙ c.if-is_found.false) in
-    (omega (arith, p.invariant.0), w.1, w.0)
+    let w = quiet-round a.m goal p.line p.area (odd p.octet) (bits_of (p.left - 1) (p.octet / 2))
+    (first a.m (decode p.line p.area) p.left p.octet goal c.loop-left-test.true p.invariant.1)
+    c.step_bit-step.result c.step_bit-step.new.area c.step_bit-step.ensures
+    (sym c.is_some.ensures ∙ c.if-is_some.false) in
+    (w.1, w.0)
+
+pub returns-then-is_some : goal.returns-then-is_some
+returns-then-is_some c =
+    let p = c.loop-left in
+    let a = c.args in
+    let goal = reading a.m (decode a.line a.area.now) (bits_of a.bits a.octet) in
+    loud-round a.m goal p.line p.area (odd p.octet) (bits_of (p.left - 1) (p.octet / 2))
+    (first a.m (decode p.line p.area) p.left p.octet goal c.loop-left-test.true p.invariant.1)
+    c.step_bit-step.result c.step_bit-step.new.area c.step_bit-step.ensures
+    (sym c.is_some.ensures ∙ c.if-is_some.true) (p.octet / 2) (p.left - 1) refl (omega arith)
 
 pub returns : goal.returns
 unfolding bits_of
@@ -60,4 +44,4 @@ returns c =
     let a = c.args in
     let goal = reading a.m (decode a.line a.area.now) (bits_of a.bits a.octet) in
     let z : p.left ≡ 0 = omega (arith, c.loop-left-test.false) in
-    at-end a.m goal p.cur p.area (sym (ap (λ (k : ℕ). reading a.m (decode p.cur p.area) (bits_of k p.rest)) z) ∙ p.invariant.2) p.invariant.1 p.rest
+    at-end a.m goal p.line p.area (sym (ap (λ (k : ℕ). reading a.m (decode p.line p.area) (bits_of k p.octet)) z) ∙ p.invariant.1) p.invariant.0 p.octet

@@ -1,5 +1,4 @@
 -- `framing::delimit::feed` meets its contract: what is left of the octet, read from here, gives the whole.
-use Prim.Native.Nat.{◌≤◌}
 use mathlib.Core.Path.{◌≡◌}
 use Rattle.bits.specs.Octets.{bits_of}
 use Rattle.framing.specs.InnerReading.{reading, IsWellFormed}
@@ -8,7 +7,5 @@ use Rattle.framing.proofs.delimit.feed.Given as goal
 
 abbrev pub invariant-loop-left : goal.invariant-loop-left
 invariant-loop-left l =
-    (l.left ≤ 8) × IsWellFormed l.m l.cur l.area × (reading l.m (decode l.cur l.area) (bits_of l.left l.rest) ≡ reading l.m (decode l.initial.cur l.initial.area) (bits_of l.bits l.octet))
-
-abbrev pub decreases-loop-left : goal.decreases-loop-left
-decreases-loop-left l = l.left
+    IsWellFormed l.m l.line l.area
+    × (reading l.m (decode l.line l.area) (bits_of l.left l.octet) ≡ reading l.m (decode l.initial.line l.initial.area) (bits_of l.bits l.initial.octet))

@@ -5,7 +5,7 @@ use Rattle.framing.proofs.delimit.put_bit.Goals as goal
 pub returns-then-bit : goal.returns-then-bit
 returns-then-bit c =
     let s = c in
-    rw c.if-bit.true (put_one 279 s.args.bits s.args.area.now s.requires.bits_bound s.requires.area_value)
+    rw (c.if-bit.true, c.from.ensures) (put_one 279 s.args.bits s.args.area.now s.requires.bits_bound s.requires.area_value)
 
 pub returns-else-bit : goal.returns-else-bit
 returns-else-bit c =

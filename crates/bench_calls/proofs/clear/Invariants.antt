@@ -1,8 +1,0 @@
--- `bench_calls::clear` is safe and ends: a call less is left after each turn.
-use Rattle.bench_calls.proofs.clear.Given as goal
-
-abbrev pub invariant-loop-left : goal.invariant-loop-left
-invariant-loop-left l = Unit {0}
-
-abbrev pub decreases-loop-left : goal.decreases-loop-left
-decreases-loop-left l = l.left

@@ -1,2 +1,0 @@
--- From the answer of a call to that of its export.
-pub mod Answers

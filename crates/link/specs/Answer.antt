@@ -1,0 +1,34 @@
+-- What a call answers: its number, 0 or that of its refusal, and the link, which a refusal leaves as it was given.
+use Rattle.std.specs.Prelude.{ℕ, Result, Ok, Err}
+use Rattle.board.specs.declared.Link.{Link}
+use Rattle.link.specs.declared.Refusal.{Refusal}
+use Rattle.link.specs.declared.Refusal.TheVariants.{Malformed, Closed, AlreadyOpen, SettingOutOfRange, WrongMemory, NotZero, LineTooLong, FewRecords, ShortOutput, ContentLength, UnknownCommand, NoSuchSlot, Unreadable}
+
+abbrev pub refusal_number : Refusal → ℕ
+refusal_number Malformed = 1
+refusal_number Closed = 2
+refusal_number AlreadyOpen = 3
+refusal_number SettingOutOfRange = 4
+refusal_number WrongMemory = 5
+refusal_number NotZero = 6
+refusal_number LineTooLong = 7
+refusal_number FewRecords = 8
+refusal_number ShortOutput = 9
+refusal_number ContentLength = 10
+refusal_number UnknownCommand = 11
+refusal_number NoSuchSlot = 12
+refusal_number Unreadable = 13
+
+pub record Answer : Type 0 where
+  pub number : ℕ
+  pub link : Link
+
+-- the number of what a function of the code gives
+abbrev pub number_of : {A : Type 0} → Result A Refusal → ℕ
+number_of (Ok x) = 0
+number_of (Err refusal) = refusal_number refusal
+
+-- the answer of a call on link l
+abbrev pub answered : Link → Result Link Refusal → Answer
+answered l (Ok after) = record { number = 0; link = after }
+answered l (Err refusal) = record { number = refusal_number refusal; link = l }

@@ -1,2 +1,0 @@
--- How a command is obeyed part by part.
-pub mod Obeying

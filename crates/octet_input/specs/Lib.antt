@@ -1,2 +1,0 @@
--- Statements.
-pub mod Alike
