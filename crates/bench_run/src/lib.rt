@@ -36,7 +36,7 @@ fn put(octets: &[u8], output: &mut [u8], written: usize) -> usize {
     }
 }
 
-// The numbers and switches of a link: all of it but its arrays.
+// The numbers and switches of a link: all of it but its arrays. Field by field, since the benchmark compares them in this order.
 fn words_of(link: &Link) -> [u16; 30] {
     let s = link.settings;
     let state = link.line.state;
@@ -129,7 +129,7 @@ fn turn<E: Engine>(
 // A line through a new link of row 1 with 16 slots, in calls of these lengths in turn, of one octet at least: how many records came.
 // Pool and descriptors are zero, 4,480 octets and 32 words; the record area has 48 octets for each octet of the longest call. The records
 // of all calls and then the link stand one after the other in the output area, as long as they fit. The slots that the last call filled
-// stay as they are.
+// stay as they are. The areas come one by one, as the exported functions are lent them.
 pub fn run_line<E: Engine>(
     switches: u64,
     lengths: &[u16],

@@ -10,7 +10,7 @@ ghost use Rattle.link.specs.Calls.{outcome_of, opened_link, open_answer, wipe_an
 use board::{Counting, Link, Settings, UnitState};
 use link::Refusal;
 
-// The faults that open finds on a link, settings and memory.
+// The faults that open finds on a link, settings and memory. Pool and descriptors are lent by the host one by one, as C hands them in.
 #[tactic(auto, unfolding(link::specs::Refusals::open_number, link::specs::Refusals::first))]
 fn check_opening(
     link: &Link,
