@@ -1,9 +1,10 @@
 # make demo     runs lineview on a sample line
 # make lib      proves and builds the library for C and Rust: target/lib
 # make install  copies library, header and pkg-config file to PREFIX (DESTDIR is put before it)
-# make test     proves and tests everything, then runs the hosts in C and Rust; its last line is the verdict
+# make test     proves and tests everything, then runs the programs and the hosts in C and Rust; its last line is the verdict
+# make programs proves and builds lineview, console, recordview and unitdump (target/bin), and compares them with independent programs
 # make bench    times the receiving engines and the check beside a bit-by-bit Rust program, each call, and lineview (docs/BENCHMARK.md)
-.PHONY: demo lib install test tools gate independent hosts bench
+.PHONY: demo lib install test tools gate independent programs hosts bench
 
 PREFIX = /usr/local
 VERSION = 0.1.0
@@ -18,9 +19,10 @@ CXX = c++
 WARNINGS = -O2 -Wall -Wextra -Werror -pedantic
 CARGO = cargo --offline --locked --quiet
 RUST = --manifest-path rust/Cargo.toml --target-dir target/rust
+REFERENCE = --manifest-path tests/reference/Cargo.toml --target-dir target/reference
 
-# proves a program, builds it and copies it to target/bin; rt builds a program only to run it, and on no input lineview writes nothing
-PROGRAM = mkdir -p target/bin && (cd crates/$(1) && rt run < /dev/null) && cp crates/$(1)/out/$(1) target/bin/
+# proves a program, builds it and copies it to target/bin; rt builds a program only to run it, so it runs on no input, and what it writes is let go
+PROGRAM = mkdir -p target/bin && (cd crates/$(1) && rt run < /dev/null > /dev/null) && cp crates/$(1)/out/$(1) target/bin/
 # proves a static library, builds it and copies it to target/staticlib
 STATICLIB = mkdir -p target/staticlib && (cd crates/$(1) && rt lib) && cp crates/$(1)/out/lib$(1).a target/staticlib/
 
@@ -55,6 +57,7 @@ install:
 test: tools
 	$(MAKE) independent
 	$(MAKE) gate
+	$(MAKE) programs
 	$(MAKE) hosts
 	@tail -n 1 target/gate.log
 
@@ -69,11 +72,28 @@ tools:
 gate:
 	tests/gate.sh
 
-# the line and the records for the check of units, and README's check by hand, are those of a program that shares nothing with the project
+# the line and the records for the check of units, the line and the file of unitdump, the records and the lines of recordview, and README's check by hand, are those of a program that shares nothing with the project
 independent:
 	@$(call NEED,python3,the tests)
 	python3 tests/crc_units.py check
+	python3 tests/unitdump.py check
+	python3 tests/record_lines.py check
 	python3 tests/check_by_hand.py
+
+# the programs, and each against a program that shares nothing with the project, on many inputs
+programs:
+	@$(call NEED,python3,the tests)
+	@$(call NEED,cargo,the reference of the console)
+	$(call PROGRAM,lineview)
+	$(call PROGRAM,console)
+	$(call PROGRAM,recordview)
+	$(call PROGRAM,unitdump)
+	$(CARGO) test $(REFERENCE)
+	$(CARGO) build --release $(REFERENCE)
+	for crate in console console_session; do target/reference/release/reference < crates/$$crate/stdin | cmp - crates/$$crate/stdout || exit 1; done
+	python3 tests/scripts.py target/bin/console target/reference/release/reference
+	python3 tests/record_lines.py run target/bin/recordview
+	python3 tests/unitdump.py run target/bin/unitdump
 
 # the header and the Rust crate against the library, the C and the Rust host against each other, the programs that README shows
 hosts: tools

@@ -5,6 +5,7 @@
 
 The C program of README is compiled with the flags that pkg-config gives for the library installed under FOLDER/prefix, is run, and must print
 what README shows. The Rust program of README must be the example of the crate's documentation, which `cargo test` compiles and runs.
+README's session of the console must be that of crates/console_session, which the gate runs.
 """
 
 import os
@@ -56,7 +57,10 @@ def main(words):
         sys.exit(f"readme: the C program prints\n{printed}and README shows something else")
     if the_block(readme, "rust") != crate_example():
         sys.exit("readme: the Rust program is not the example of the crate's documentation")
-    print("readme: the C program, built from the installed library, prints what README shows; the Rust program is the crate's tested example")
+    session = [(ROOT / "crates/console_session" / name).read_text() for name in ("stdin", "stdout")]
+    if blocks(readme, "console") != session:
+        sys.exit("readme: the session of the console is not that of crates/console_session")
+    print("readme: the C program, built from the installed library, prints what README shows; the Rust program is the crate's tested example; the session is one that the gate runs")
 
 
 if __name__ == "__main__":

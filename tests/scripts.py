@@ -4,10 +4,12 @@
     python3 tests/scripts.py CONSOLE REFERENCE     runs both on every script; they must print the same octets
     python3 tests/scripts.py show N                prints script N
 
-The scripts must show every call with every refusal that the scope gives it and a console can provoke, every kind of record, both alarms and lines
-that can't be read. The grammar is that of `help`.
+The scripts must show every call with every refusal that the scope gives it and a console can provoke, every kind of record, every event
+(both alarms among them) and lines that can't be read. The grammar is that of `help`. Then both read octets that are no script, and the
+console must answer a line before the next one is sent.
 """
 
+import random
 import subprocess
 import sys
 from collections import Counter
@@ -17,6 +19,7 @@ from hosts import KINDS, Line, any_octets
 
 SCRIPTS = 240
 SEED = 1717
+NOISE = 10_000_000
 LIMITS = {"pool": 4608, "desc": 40, "records": 49152, "output": 512}
 MOST_RECEIVE, MOST_SEND = 1100, 300
 
@@ -31,6 +34,9 @@ NUMBERS = {
     "read": {0, 2, 5, 12, 13},
     "hand": {0, 2, 5, 12, 13},
 }
+
+# every event bit
+EVENTS = 511
 
 # lines that can't be read, beside those that are drawn
 UNREADABLE = [
@@ -120,9 +126,9 @@ class Script:
     def look(self):
         self.add(self.draw.one_of(["show", "show", "slots", "# a comment", "", "help"] if self.chance(4) else ["show"]))
 
-    # lines of about the most octets that are kept
+    # lines of about one block of input, and of many
     def long_line(self):
-        n = self.draw.one_of([4095, 4096, 4097, 5000, 9000])
+        n = self.draw.one_of([4095, 4096, 4097, 5000, 9000, 70000])
         self.lines.append(self.draw.one_of([b"#" * n, b"command " + b"0" * (n - 9) + b"1", b"receive " + b"7e" * ((n - 8) // 2), b" " * n, b"x" * n]))
 
     def unreadable(self):
@@ -159,13 +165,31 @@ def printed(program, script):
     return done.stdout
 
 
-def compare(number, ours, theirs):
+def compare(name, ours, theirs):
     if ours == theirs:
         return
     a, b = ours.split(b"\n"), theirs.split(b"\n")
     at = next((i for i, (x, y) in enumerate(zip(a, b)) if x != y), min(len(a), len(b)))
     x, y = (lines[at][:100] if at < len(lines) else b"nothing" for lines in (a, b))
-    sys.exit(f"scripts: script {number}: line {at + 1} of the output is {x!r} of the console and {y!r} of the reference")
+    sys.exit(f"scripts: {name}: line {at + 1} of the output is {x!r} of the console and {y!r} of the reference")
+
+
+# any octets, and one long line with no end
+def noise():
+    draw = random.Random(SEED)
+    return [("any octets", draw.randbytes(NOISE)), ("octets without an end of line", draw.randbytes(NOISE // 10).replace(b"\n", b"x"))]
+
+
+# each line is answered while the input is still open
+def check_at_once(console):
+    with subprocess.Popen([console], stdin=subprocess.PIPE, stdout=subprocess.PIPE) as child:
+        for line, answer in [(b"row 1 1 ffffffffff\n", b"open 0\n"), (b"command 2\nfil\n", b"command 0\n? 3\n"), (b"fill\n", b"fill 0 1 7e\n")]:
+            child.stdin.write(line)
+            child.stdin.flush()
+            for part in answer.splitlines(keepends=True):
+                said = child.stdout.readline()
+                if said != part:
+                    sys.exit(f"scripts: to {line!r} the console answers {said!r} and not {part!r}")
 
 
 def main(words):
@@ -174,11 +198,11 @@ def main(words):
         return
     if len(words) != 2:
         sys.exit("usage: python3 tests/scripts.py CONSOLE REFERENCE | show N")
-    answers, kinds, alarms, unread, lines = Counter(), set(), 0, 0, 0
+    answers, kinds, alarms, events, unread, lines = Counter(), set(), 0, 0, 0, 0
     for number in range(SCRIPTS):
         script = Script(SEED + number).made()
         ours, theirs = (printed(program, script) for program in words)
-        compare(number, ours, theirs)
+        compare(f"script {number}", ours, theirs)
         lines += script.count(b"\n")
         for line in ours.split(b"\n"):
             parts = line.split(b" ")
@@ -188,14 +212,19 @@ def main(words):
                 octets = bytes.fromhex(parts[1].decode())
                 kinds.add(octets[0])
                 alarms += octets[13]
+            elif parts[0] == b"events":
+                events |= int(parts[1])
             unread += parts[0] == b"?"
+    for name, octets in noise():
+        compare(name, *(printed(program, octets) for program in words))
+    check_at_once(words[0])
     for call, numbers in NUMBERS.items():
         given = {n for (name, n) in answers if name == call}
         if given != numbers:
             sys.exit(f"scripts: {call} was answered with {sorted(given)}, and a console can be answered with {sorted(numbers)}")
-    if kinds != KINDS or alarms == 0 or unread == 0:
-        sys.exit(f"scripts: kinds {sorted(kinds)}, {alarms} alarms, {unread} lines that can't be read: not all were shown")
-    print(f"scripts: {SCRIPTS} scripts of {lines} lines, {alarms} alarms, {unread} lines that can't be read: console and reference print the same")
+    if kinds != KINDS or alarms == 0 or events != EVENTS or unread == 0:
+        sys.exit(f"scripts: kinds {sorted(kinds)}, {alarms} alarms, events {events}, {unread} lines that can't be read: not all were shown")
+    print(f"scripts: {SCRIPTS} scripts of {lines} lines, {alarms} alarms, {unread} lines that can't be read, and {NOISE} octets that are no script: console and reference print the same")
 
 
 if __name__ == "__main__":

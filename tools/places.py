@@ -1,7 +1,7 @@
 #!/usr/bin/env python3
 """Lists places in crates/*/src and crates/*/proofs that an older Rattle's forms leave, by the points of docs/DESIGN-PASS.md, and counts them.
 
-Usage: tools/places.py [-v] [FOLDER]    (FOLDER is a checkout; with -v each place is printed)
+Usage: tools/places.py [-v] [FOLDER [LIST]]    (FOLDER is a checkout; with -v each place is printed; of the crates that LIST, a crates.txt, names, if it is given)
 It goes by text: a place that it finds may be one that stays, for a reason that stands beside it."""
 
 import collections
@@ -11,8 +11,8 @@ import re
 import sys
 
 VERBOSE = "-v" in sys.argv[1:]
-FOLDERS = [a for a in sys.argv[1:] if a != "-v"]
-TOP = pathlib.Path(FOLDERS[0] if FOLDERS else ".")
+PATHS = [pathlib.Path(a) for a in sys.argv[1:] if a != "-v"] or [pathlib.Path(".")]
+TOP = PATHS[0]
 COMMENT = re.compile(r"//.*")
 CLAUSE = re.compile(r"^\s*(?:requires|ensures)(?: \w+)? \{ (.*) \}$")
 FN = re.compile(r"^\s*(?:pub )?(?:extern \"C\" )?fn (\w+)")
@@ -20,11 +20,17 @@ TOKEN = re.compile(r"[A-Za-z_]\w*|\d\w*|[^\s\w]")
 PLAIN = {"omega arith", "search rules", "refl", "grind arith", "cc"}
 
 
-def listed():
-    """The crates of crates.txt, in its order."""
-    for line in (TOP / "crates.txt").read_text().splitlines():
+def names(path):
+    """The crates that a crates.txt names, in its order."""
+    for line in path.read_text().splitlines():
         if line.strip() and not line.startswith("#"):
             yield line.split(":")[0].split()[0]
+
+
+def listed():
+    """The crates that are looked at."""
+    these = set(names(PATHS[-1])) if len(PATHS) > 1 else None
+    return [name for name in names(TOP / "crates.txt") if these is None or name in these]
 
 
 def sources():

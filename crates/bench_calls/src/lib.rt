@@ -48,6 +48,8 @@ fn count(link: &mut Link, answer: Result<Counted, Refusal>) -> usize {
     }
 }
 
+// Each call is a function, here and below; alike ones differ in the call that they name, and one for several would have to choose it in the time taken.
+
 // The wipe between bookings, and the next booking.
 fn book(times: u64, pool: &mut [u8], descriptors: &mut [u16]) -> usize {
     repeat(times, || {

@@ -66,6 +66,7 @@ fn words_of(link: &Link) -> [u16; 30] {
         units.counts.over,
         units.counts.dropped,
         units.counts.lost,
+        // the mode's own number; a From for it would serve this place and host_link's, each of which has a bound of its own
         monitor.mode as u16,
         monitor.count,
         monitor.number,
@@ -148,6 +149,7 @@ pub fn run_line<E: Engine>(
     };
     let mut calls = lengths.iter().cycle();
     let mut left = line;
+    // a turn takes the octets of one call, whose number `lengths` gives
     while !left.is_empty() {
         let call = calls.next().map_or(1, |n| usize::from(*n).max(1));
         let (octets, rest) = left.split_at(call.min(left.len()));

@@ -2,10 +2,10 @@
 pub mod Digits
 pub mod Lines
 pub mod Packing
+pub mod Parts
 pub mod Gathering
 pub mod Whole
 pub mod Writing
 pub mod Typed
 pub mod Machines
-pub mod Tests
 pub mod Joined

@@ -6,9 +6,10 @@ use mathlib.Core.List.{List, [], ◌∷◌, ◌++◌, append_assoc}
 use native.Mathlib.Nat.{not-suc-le-zero, zero-add, suc-add}
 use native.Mathlib.Decide.{dec_lt}
 use native.Mathlib.Omega.{arith}
-use lib.ListN.{length, take, drop, replicate, length-take, length-drop, take-append-drop}
+use lib.ListN.{length, take, drop, replicate, set, length-take, length-drop, take-append-drop}
 use lib.Seq.{take_all, take-append-le, drop-append-le, take-append-add, length-take-le, take-nil, take_at, drop_at, drop-drop, take-add}
 use lib.Pow.{pow_mono}
+use Rattle.std.proofs.lemmas.List.{nil_from_length}
 use Rattle.bits.specs.Octets.{bits_of, line_bits, octet_of, packed, Octets, none, more}
 use Rattle.bits.proofs.Digits.{length-bits_of, bits_back, all_back, value-back, octet_of-lt}
 use Rattle.bits.proofs.Lines.{length-line_bits}
@@ -52,10 +53,6 @@ packed-front (suc n) g h l =
     ap₂ {C = List ℕ} (λ a b. a ∷ b) (ap octet_of (take-append-le 8 g h (omega arith)))
     (ap (packed n) (drop-append-le 8 g h (omega arith)) ∙ packed-front n (drop 8 g) h (omega (arith, length-drop 8 g)))
 
-none_left : (g : List Bool) → length g ≤ 0 → [] ≡ g
-none_left [] h = refl
-none_left (x ∷ g) h = absurd (not-suc-le-zero h)
-
 -- ---- what was packed is read back
 unpack-small : (g rest : List Bool) → length g < 8 → take (length g) (bits_of 8 (octet_of (take 8 g)) ++ rest) ≡ g
 unpack-small g rest h =
@@ -75,7 +72,7 @@ unpack-large g rest h ih =
 
 pub unpack : (n : ℕ) (g : List Bool) → length g ≤ 8 * n → take (length g) (line_bits (packed n g)) ≡ g
 unfolding packed line_bits
-unpack zero g h = take-nil (length g) ∙ none_left g (omega arith)
+unpack zero g h = take-nil (length g) ∙ sym (nil_from_length g (omega arith))
 unpack (suc n) g h =
     elim (dec_lt (length g) 8) [
       | yes p ↦ unpack-small g (line_bits (packed n (drop 8 g))) p
@@ -110,7 +107,12 @@ held-length n k area h e =
 -- zeros in the octets that hold bits leave zeros only
 pub zero-front : (n i : ℕ) (g : List Bool) → length g ≤ 8 * i → i ≤ n → replicate i 0 ++ drop i (packed n g) ≡ packed n []
 unfolding packed octet_of
-zero-front n zero g h k = ap (packed n) (sym (none_left g (omega arith)))
+zero-front n zero g h k = ap (packed n) (nil_from_length g (omega arith))
 zero-front zero (suc i) g h k = absurd (not-suc-le-zero k)
 zero-front (suc n) (suc i) g h k =
     ap {B = List ℕ} (λ r. 0 ∷ r) (zero-front n i (drop 8 g) (omega (arith, length-drop 8 g)) (omega arith))
+
+-- eight bits at most stand in the first octet
+pub zero-first : (n : ℕ) (g : List Bool) → length g ≤ 8 → set (packed (suc n) g) 0 0 ≡ packed (suc n) []
+unfolding packed
+zero-first n g h = zero-front (suc n) 1 g (omega arith) (omega arith)

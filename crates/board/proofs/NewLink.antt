@@ -1,7 +1,7 @@
 -- A closed link is malformed exactly if it isn't the new link.
 use Prim.Native.Nat.{ℕ, zero, suc}
 use mathlib.Core.Path.{◌≡◌, refl, sym, ap, ◌∙◌}
-use mathlib.Core.Bool.{Bool, beq, true, false, not, false≢true}
+use mathlib.Core.Bool.{beq, true, false, not, false≢true}
 use mathlib.Core.List.{List, [], ◌∷◌}
 use lib.Dec.{eqb}
 use lib.ListN.{length, get_or, replicate}
@@ -28,24 +28,18 @@ use Rattle.board.specs.Link.{new_link, clear_area}
 use Rattle.board.specs.Malformed.{is_off, numbers, is_new}
 use Rattle.board.specs.Promises.{Sized, NewExactly}
 use Rattle.board.proofs.Ranges.{when-closed}
-use Rattle.bits.proofs.Tests.{both}
-
-zeros-are : (xs : List ℕ) → zeros xs ≡ true → xs ≡ replicate (length xs) 0
-unfolding zeros
-zeros-are [] e = refl
-zeros-are (x ∷ xs) e =
-    let p = both (eqb x 0) (zeros xs) e in
-    let h : x ≡ 0 = eqb-true x 0 p.0 in
-    let t = zeros-are xs p.1 in cc
+use Rattle.std.proofs.lemmas.Bool.{and_parts}
+use Rattle.std.specs.Cmp.{both_ways}
+use Rattle.memory.proofs.Slots.{zeros-exact}
 
 zero-at : (xs : List ℕ) → zeros xs ≡ true → (i : ℕ) → get_or xs i 0 ≡ 0
 unfolding zeros
 zero-at [] e i = refl
-zero-at (x ∷ xs) e zero = eqb-true x 0 (both (eqb x 0) (zeros xs) e).0
-zero-at (x ∷ xs) e (suc i) = zero-at xs (both (eqb x 0) (zeros xs) e).1 i
+zero-at (x ∷ xs) e zero = eqb-true x 0 (and_parts (eqb x 0) (zeros xs) e).0
+zero-at (x ∷ xs) e (suc i) = zero-at xs (and_parts (eqb x 0) (zeros xs) e).1 i
 
 all-zero : (n : ℕ) (xs : List ℕ) → length xs ≡ n → zeros xs ≡ true → xs ≡ replicate n 0
-all-zero n xs l e = zeros-are xs e ∙ ap (λ (k : ℕ). replicate k 0) l
+all-zero n xs l e = (zeros-exact xs).0 e ∙ ap (λ (k : ℕ). replicate k 0) l
 
 is-off : (m : Mode) → is_off m ≡ true → m ≡ Off
 is-off Off e = refl
@@ -60,20 +54,20 @@ new-is-new = refl
 only-new : (l : Link) → Sized l → l.opened ≡ false → is_new l ≡ true → l ≡ new_link
 unfolding is_new clear_area
 only-new l z o e =
-    let p11 = both _ _ e in
-    let p10 = both _ _ p11.0 in
-    let p9 = both _ _ p10.0 in
-    let p8 = both _ _ p9.0 in
-    let p7 = both _ _ p8.0 in
-    let p6 = both _ _ p7.0 in
-    let p5 = both _ _ p6.0 in
-    let p4 = both _ _ p5.0 in
-    let p3 = both _ _ p4.0 in
-    let p2 = both _ _ p3.0 in
-    let p1 = both _ _ p2.0 in
-    let a3 = both _ _ p1.1 in
-    let a2 = both _ _ a3.0 in
-    let a1 = both _ _ a2.0 in
+    let p11 = and_parts _ _ e in
+    let p10 = and_parts _ _ p11.0 in
+    let p9 = and_parts _ _ p10.0 in
+    let p8 = and_parts _ _ p9.0 in
+    let p7 = and_parts _ _ p8.0 in
+    let p6 = and_parts _ _ p7.0 in
+    let p5 = and_parts _ _ p6.0 in
+    let p4 = and_parts _ _ p5.0 in
+    let p3 = and_parts _ _ p4.0 in
+    let p2 = and_parts _ _ p3.0 in
+    let p1 = and_parts _ _ p2.0 in
+    let a3 = and_parts _ _ p1.1 in
+    let a2 = and_parts _ _ a3.0 in
+    let a1 = and_parts _ _ a2.0 in
     let n : (i : ℕ) → get_or (numbers l) i 0 ≡ 0 = zero-at (numbers l) p1.0 in
     let mask : l.settings.mask ≡ replicate 5 0 = all-zero 5 _ z.mask a1.0 in
     let area : l.line.area ≡ replicate 279 0 = all-zero 279 _ z.area a1.1 in
@@ -113,9 +107,9 @@ new-exactly l z o = (
 -- ---- `==` of links
 settings-equal : (a b : Settings) → settings.ghosts.eq a b ≡ true → a ≡ b
 settings-equal a b e =
-    let p1 = both (eqb a.k b.k) _ e in
-    let p2 = both (eqb a.m b.m) _ p1.1 in
-    let p3 = both (eqb a.n b.n) _ p2.1 in
+    let p1 = and_parts (eqb a.k b.k) _ e in
+    let p2 = and_parts (eqb a.m b.m) _ p1.1 in
+    let p3 = and_parts (eqb a.n b.n) _ p2.1 in
     let k : a.k ≡ b.k = search (rules, p1.0) in
     let m : a.m ≡ b.m = search (rules, p2.0) in
     let n : a.n ≡ b.n = search (rules, p3.0) in
@@ -133,9 +127,9 @@ line-equal a b e = search rules
 
 units-equal : (a b : UnitState) → units.ghosts.eq a b ≡ true → a ≡ b
 units-equal a b e =
-    let p1 = both (counting.ghosts.eq a.counting b.counting) _ e in
-    let p2 = both (memory.ghosts.eq a.memory b.memory) _ p1.1 in
-    let p3 = both (eqb a.slots.next b.slots.next) _ p2.1 in
+    let p1 = and_parts (counting.ghosts.eq a.counting b.counting) _ e in
+    let p2 = and_parts (memory.ghosts.eq a.memory b.memory) _ p1.1 in
+    let p3 = and_parts (eqb a.slots.next b.slots.next) _ p2.1 in
     let q1 : a.counting ≡ b.counting = search (rules, p1.0) in
     let q2 : a.memory ≡ b.memory = search (rules, p2.0) in
     let q3 : a.slots ≡ b.slots = search (rules, p3.0) in
@@ -150,11 +144,11 @@ transmitter-equal a b e = search rules
 
 equal : (l m : Link) → link.ghosts.eq l m ≡ true → l ≡ m
 equal l m e =
-    let p1 = both (beq l.opened m.opened) _ e in
-    let p2 = both (settings.ghosts.eq l.settings m.settings) _ p1.1 in
-    let p3 = both (line.ghosts.eq l.line m.line) _ p2.1 in
-    let p4 = both (units.ghosts.eq l.units m.units) _ p3.1 in
-    let p5 = both (supervision.ghosts.eq l.supervision m.supervision) _ p4.1 in
+    let p1 = and_parts (beq l.opened m.opened) _ e in
+    let p2 = and_parts (settings.ghosts.eq l.settings m.settings) _ p1.1 in
+    let p3 = and_parts (line.ghosts.eq l.line m.line) _ p2.1 in
+    let p4 = and_parts (units.ghosts.eq l.units m.units) _ p3.1 in
+    let p5 = and_parts (supervision.ghosts.eq l.supervision m.supervision) _ p4.1 in
     let q1 : l.opened ≡ m.opened = search (rules, p1.0) in
     let q2 = settings-equal _ _ p2.0 in
     let q3 = line-equal _ _ p3.0 in
@@ -171,9 +165,4 @@ pub new-equally : (l n : Link) → Sized l → l.opened ≡ false → n ≡ new_
 new-equally l n z o e =
     let to : link.ghosts.eq l n ≡ true → is_new l ≡ true = λ (q : link.ghosts.eq l n ≡ true). ap is_new (equal l n q ∙ e) ∙ new-is-new in
     let from : is_new l ≡ true → link.ghosts.eq l n ≡ true = λ (q : is_new l ≡ true). rw (only-new l z o q, e) new-equal in
-    same (link.ghosts.eq l n) (is_new l) to from
-  where
-    same : (a b : Bool) → (a ≡ true → b ≡ true) → (b ≡ true → a ≡ true) → a ≡ b
-    same false false f g = refl
-    same false true f g = g refl
-    same true b f g = sym (f refl)
+    both_ways (link.ghosts.eq l n) (is_new l) to from

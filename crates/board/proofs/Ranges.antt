@@ -5,7 +5,7 @@ use mathlib.Core.Bool.{Bool, true, false, not, ◌&&◌, false≢true, cond}
 use native.Mathlib.Omega.{arith}
 use lib.Dec.{ltb}
 use borrow.Author.Tests.{leb-true, leb-false, le-leb, lt-leb, ltb-false, le-ltb, not-false}
-use Rattle.bits.proofs.Tests.{both, neither, both_true, both_false}
+use Rattle.std.proofs.lemmas.Bool.{and_parts, or_parts, and_from, or_from}
 use Rattle.bits.specs.Format.{basic}
 use Rattle.monitor.specs.declared.Mode.{Mode}
 use Rattle.monitor.specs.declared.Mode.TheVariants.{Off, Failure, Alignment, Idle}
@@ -26,19 +26,19 @@ when-closed l e = ap (λ (b : Bool). cond b (open_malformed l) (not (is_new l)))
 
 -- ---- the settings
 within-range : (least most n : ℕ) → within least most n ≡ true → (least ≤ n) × (n ≤ most)
-within-range least most n e = let p = both _ _ e in (leb-true least n p.0, leb-true n most p.1)
+within-range least most n e = let p = and_parts _ _ e in (leb-true least n p.0, leb-true n most p.1)
 
 range-within : (least most n : ℕ) → (least ≤ n) × (n ≤ most) → within least most n ≡ true
-range-within least most n h = both_true _ _ (le-leb least n h.0) (le-leb n most h.1)
+range-within least most n h = and_from _ _ (le-leb least n h.0) (le-leb n most h.1)
 
 pub ranges : (s : Settings) → in_range basic s ≡ true → SettingsInRange s
 unfolding in_range
 ranges s e =
-    let a = both _ _ e in
-    let d = both _ _ a.0 in
-    let t = both _ _ d.0 in
-    let n = both _ _ t.0 in
-    let m = both _ _ n.0 in
+    let a = and_parts _ _ e in
+    let d = and_parts _ _ a.0 in
+    let t = and_parts _ _ d.0 in
+    let n = and_parts _ _ t.0 in
+    let m = and_parts _ _ n.0 in
     record {
       k = within-range _ _ s.k m.0;
       m = within-range _ _ s.m m.1;
@@ -51,10 +51,10 @@ ranges s e =
 pub in-range : (s : Settings) → SettingsInRange s → in_range basic s ≡ true
 unfolding in_range
 in-range s r =
-    both_true _ _
-    (both_true _ _
-    (both_true _ _
-    (both_true _ _ (both_true _ _ (range-within _ _ s.k r.k) (range-within _ _ s.m r.m)) (range-within _ _ s.n r.n))
+    and_from _ _
+    (and_from _ _
+    (and_from _ _
+    (and_from _ _ (and_from _ _ (range-within _ _ s.k r.k) (range-within _ _ s.m r.m)) (range-within _ _ s.n r.n))
     (range-within _ _ s.t r.t)) (range-within _ _ s.d r.d)) (range-within _ _ s.a r.a)
 
 pub ranges-exactly : RangesExactly
@@ -90,18 +90,18 @@ pub well-formed : (l : Link) → l.opened ≡ true → malformed l ≡ false →
 unfolding open_malformed line_out counter_out monitor_out transmitter_out
 well-formed l o e =
     let f = sym (when-open l o) ∙ e in
-    let f6 = neither _ _ f in
-    let f5 = neither _ _ f6.0 in
-    let f4 = neither _ _ f5.0 in
-    let f3 = neither _ _ f4.0 in
-    let f2 = neither _ _ f3.0 in
-    let f1 = neither _ _ f2.0 in
-    let line = neither _ _ f2.1 in
-    let low = neither _ _ line.0 in
-    let counter = neither _ _ f3.1 in
-    let mon = neither _ _ f4.1 in
-    let send = neither _ _ f6.1 in
-    let few = neither _ _ send.0 in
+    let f6 = or_parts _ _ f in
+    let f5 = or_parts _ _ f6.0 in
+    let f4 = or_parts _ _ f5.0 in
+    let f3 = or_parts _ _ f4.0 in
+    let f2 = or_parts _ _ f3.0 in
+    let f1 = or_parts _ _ f2.0 in
+    let line = or_parts _ _ f2.1 in
+    let low = or_parts _ _ line.0 in
+    let counter = or_parts _ _ f3.1 in
+    let mon = or_parts _ _ f4.1 in
+    let send = or_parts _ _ f6.1 in
+    let few = or_parts _ _ send.0 in
     record {
       area = not-false _ f1.0;
       settings = ranges l.settings (not-false _ f1.1);
@@ -124,20 +124,20 @@ pub not-malformed : (l : Link) → l.opened ≡ true → WellFormed l → malfor
 unfolding open_malformed line_out counter_out monitor_out transmitter_out
 not-malformed l o w =
     when-open l o
-    ∙ both_false _ _
-    (both_false _ _
-    (both_false _ _
-    (both_false _ _
-    (both_false _ _ (both_false _ _ (ap not w.area) (ap not (in-range l.settings w.settings)))
-    (both_false _ _
-    (both_false _ _ (le-ltb 7 l.line.state.run w.run) (le-ltb (8 * l.settings.m + 7) l.line.state.bits w.bits))
+    ∙ or_from _ _
+    (or_from _ _
+    (or_from _ _
+    (or_from _ _
+    (or_from _ _ (or_from _ _ (ap not w.area) (ap not (in-range l.settings w.settings)))
+    (or_from _ _
+    (or_from _ _ (le-ltb 7 l.line.state.run w.run) (le-ltb (8 * l.settings.m + 7) l.line.state.bits w.bits))
     (none_then l.line.state.hunting l.line.state.bits w.idle)))
-    (both_false _ _ (le-ltb l.units.counting.left 1 w.counter.0) (le-ltb l.settings.n l.units.counting.left w.counter.1)))
-    (both_false _ _ (lt-leb l.settings.d l.supervision.monitor.number w.monitor.number)
+    (or_from _ _ (le-ltb l.units.counting.left 1 w.counter.0) (le-ltb l.settings.n l.units.counting.left w.counter.1)))
+    (or_from _ _ (lt-leb l.settings.d l.supervision.monitor.number w.monitor.number)
     (count-out l.supervision.monitor.mode l.settings l.supervision.monitor.count w.monitor.count)))
     (lt-leb l.settings.k l.units.slots.next w.next))
-    (both_false _ _
-    (both_false _ _ (le-ltb 7 l.transmitter.count w.waiting) (not_on l.transmitter.flagged l.transmitter.count w.unflagged))
+    (or_from _ _
+    (or_from _ _ (le-ltb 7 l.transmitter.count w.waiting) (not_on l.transmitter.flagged l.transmitter.count w.unflagged))
     (ap not w.wait))
 
 pub well-formed-exactly : WellFormedExactly

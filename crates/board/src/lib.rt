@@ -4,7 +4,7 @@
 
 use filter::Memory;
 use framing::Line;
-use monitor::Monitor;
+use monitor::{Mode, Monitor};
 
 pub mod events;
 pub mod limits;
@@ -63,7 +63,7 @@ pub struct Counts {
 }
 
 // The sender between calls: whether a flag has gone, the waiting bits, and the last content's first two octets, if content was sent.
-// `sent` and `last` are no Option, since the C link (HostTransmitter) shows both, and what it shows comes back.
+// `flagged` and the waiting bits, `sent` and `last` are no Options, since the C link (HostTransmitter) shows each, and what it shows comes back.
 #[repr(C)]
 #[derive(Clone, Copy, PartialEq, Eq)]
 pub struct Transmitter {
@@ -91,6 +91,7 @@ pub struct Supervision {
     pub events: u16,
 }
 
+// `opened` is no Option around the rest: the C link (HostLink) shows a closed link's numbers, and calls must refuse one that is not the new link.
 #[derive(Clone, Copy, PartialEq, Eq)]
 pub struct Link {
     pub opened: bool,
@@ -203,7 +204,7 @@ fn new_supervision() -> Supervision
     ensures { result ≡ new_supervision }
 {
     Supervision {
-        monitor: Monitor::off(),
+        monitor: Monitor::started(Mode::Off),
         events: 0,
     }
 }

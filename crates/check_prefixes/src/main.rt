@@ -15,6 +15,7 @@ fn read_full<R: Read>(input: &mut R, buf: &mut [u8]) -> usize
     ensures octets { Consumes (R.remaining input.old) (R.remaining input.new) (take result buf.new) }
 {
     let mut done: usize = 0;
+    // a turn is one read, which says itself how much it took
     while let Ok(n @ 1..) = input.read(&mut buf[done..]) {
         done += n;
     }

@@ -12,6 +12,7 @@ use Rattle.bits.proofs.Machines.{run-append, outs-append}
 use Rattle.bits.proofs.Digits.{snoc-length}
 use Rattle.std.proofs.lemmas.Bool.{and_parts}
 use Rattle.framing.specs.Delimitation.{Receiver, Finding, long, inside, hunts, flagged, unit, gather, step_bit, next, finds, receiver_after, findings}
+use Rattle.framing.proofs.Steps.{bit-then, hunted-zero}
 use Rattle.sending.specs.Stuffing.{flag}
 use Rattle.delimitation.specs.BetweenFlags.{no_six, unstuffed, ones_at_end, found_of, FlagRead, BetweenFlags}
 
@@ -24,10 +25,7 @@ record Reads (M : ℕ) (s : Receiver) (bs : List Bool) (fs : List Finding) : Typ
 reads-bit : (M : ℕ) (s s' : Receiver) (b : Bool) (bs : List Bool) (fs fs' : List Finding) → step_bit M s b ≡ (s', fs) → Reads M s' bs fs'
     → Reads M s (b ∷ bs) (fs ++ fs')
 reads-bit M s s' b bs fs fs' e q =
-    record {
-      state = ap (λ (st : Receiver × List Finding). receiver_after M st.0 bs) e ∙ q.state;
-      found = ap (λ (st : Receiver × List Finding). st.1 ++ findings M st.0 bs) e ∙ ap (λ (l : List Finding). fs ++ l) q.found;
-    }
+    let p = bit-then M s s' flagged b bs fs fs' e q.state q.found in record { state = p.0; found = p.1 }
 
 -- a bit that is gathered, or is one too many
 reads-gathered : (M r r' : ℕ) (g : List Bool) (b : Bool) (bs : List Bool) (fs : List Finding) → step_bit M (inside r g) b ≡ gather M (inside r g) r' b
@@ -69,12 +67,8 @@ last-zero M s e = rw e record { state = refl; found = append-nil _ }
 hunted-one : (M r : ℕ) (bs : List Bool) → r ≤ 5 → Reads M (hunts (r + 1)) bs [] → Reads M (hunts r) (true ∷ bs) []
 hunted-one M r bs h q = reads-bit M (hunts r) (hunts (r + 1)) true bs [] [] (one-step M (hunts r) h) q
 
-hunted-zero : (M r : ℕ) (bs : List Bool) → r ≤ 5 → Reads M (hunts 0) bs [] → Reads M (hunts r) (false ∷ bs) []
-hunted-zero M r bs h q = reads-bit M (hunts r) (hunts 0) false bs [] [] (go (eqb r 5) refl) q
-  where
-    go : (x : Bool) → eqb r 5 ≡ x → step_bit M (hunts r) false ≡ (hunts 0, [])
-    go true e = five-step M r true [] (eqb-true r 5 e)
-    go false e = zero-step M (hunts r) (omega (arith, eqb-false r 5 e))
+hunted-zeros : (M r : ℕ) (bs : List Bool) → r ≤ 5 → Reads M (hunts 0) bs [] → Reads M (hunts r) (false ∷ bs) []
+hunted-zeros M r bs h q = reads-bit M (hunts r) (hunts 0) false bs [] [] (hunted-zero M r (ne_eqb r 6 (omega arith))) q
 
 hunted-ones : (M n r : ℕ) → r + n ≡ 6 → Reads M (hunts r) (replicate n true ++ (false ∷ [])) []
 hunted-ones M zero r e = last-zero M (hunts r) (omega arith)
@@ -82,12 +76,12 @@ hunted-ones M (suc n) r e = hunted-one M r (replicate n true ++ (false ∷ [])) 
 
 hunted : (M r : ℕ) (bs : List Bool) → r ≤ 5 → no_six r bs ≡ true → Reads M (hunts r) (bs ++ flag) []
 unfolding no_six
-hunted M r [] h k = hunted-zero M r (replicate 6 true ++ (false ∷ [])) h (hunted-ones M 6 0 refl)
+hunted M r [] h k = hunted-zeros M r (replicate 6 true ++ (false ∷ [])) h (hunted-ones M 6 0 refl)
 hunted M r (true ∷ bs) h k =
     let t = and_parts (ltb r 5) (no_six (r + 1) bs) k in
     let l : r < 5 = ltb-true r 5 t.0 in
     hunted-one M r (bs ++ flag) h (hunted M (r + 1) bs (omega arith) t.1)
-hunted M r (false ∷ bs) h k = hunted-zero M r (bs ++ flag) h (hunted M 0 bs (omega arith) k)
+hunted M r (false ∷ bs) h k = hunted-zeros M r (bs ++ flag) h (hunted M 0 bs (omega arith) k)
 
 -- ---- inside a unit
 found-long : (M : ℕ) (u : List Bool) → 8 * M < length u → long ∷ [] ≡ found_of M u

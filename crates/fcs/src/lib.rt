@@ -30,7 +30,7 @@ pub fn check_table() -> &'static [u16; 1024]
     &table::TABLE
 }
 
-// What may not change: a call with any other words is refused, so that the table is a parameter.
+// What may not change: a call with any other words is refused (the edit any_table of framing), so that the table is a parameter.
 // The register after a run of octets, from the preset: four octets at a time, and the last up to three one at a time.
 pub fn check_by_table(octets: &[u8], table: &[u16; 1024]) -> u16
     requires { table.now ≡ check_table }
@@ -38,6 +38,7 @@ pub fn check_by_table(octets: &[u8], table: &[u16; 1024]) -> u16
 {
     let mut register = PRESET;
     let mut left = octets;
+    // four octets a turn by a pattern, which no `for` takes
     while let [a, b, c, d, rest @ ..] = left {
         let low = (register ^ u16::from(*a)) % 256;
         let high = (register / 256) ^ u16::from(*b);

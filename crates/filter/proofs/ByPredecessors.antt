@@ -13,7 +13,7 @@ use Rattle.filter.specs.History.{FilterInput, good, command-4, memory_after}
 use Rattle.filter.specs.Predecessors.{is_message, needs, row, dropped_after, none, more, HadItsLike}
 use Rattle.filter.specs.Promises.{DroppedExactly, DroppedHadItsLike, LikeHandedOver}
 use Rattle.filter.proofs.Likeness.{alike-transitive}
-use Rattle.bits.proofs.Tests.{both}
+use Rattle.std.proofs.lemmas.Bool.{and_parts}
 use Rattle.filter.proofs.Settling.{when-over, dropped-if}
 use Rattle.filter.proofs.Held.{tells, drops-as}
 
@@ -72,9 +72,9 @@ module _ (F : Format) (mask : List ℕ) where
   unfolding row
   had-in-row [] k u r = absurd (false≢true r)
   had-in-row (good v free ∷ hs) k u r =
-      let p = both (not (is_message (kind_of F v))) (alike mask v u && ((dropped_after F mask hs v || free) && row F mask hs k u)) r in
-      let q = both (alike mask v u) ((dropped_after F mask hs v || free) && row F mask hs k u) p.1 in
-      let d = both (dropped_after F mask hs v || free) (row F mask hs k u) q.1 in
+      let p = and_parts (not (is_message (kind_of F v))) (alike mask v u && ((dropped_after F mask hs v || free) && row F mask hs k u)) r in
+      let q = and_parts (alike mask v u) ((dropped_after F mask hs v || free) && row F mask hs k u) p.1 in
+      let d = and_parts (dropped_after F mask hs v || free) (row F mask hs k u) q.1 in
       before hs u v (not-true (is_message (kind_of F v)) p.0) q.0 free d.0 (λ j x. had-in-row hs j v x)
   had-in-row (command-4 ∷ hs) k u r = absurd (false≢true r)
 

@@ -16,7 +16,7 @@ use Rattle.filter.specs.History.{FilterInput, good, command-4, memory_after}
 use Rattle.filter.specs.Predecessors.{is_message, needs, row, dropped_after}
 use Rattle.filter.proofs.UnitKinds.{not_none, lengths_differ}
 use Rattle.filter.proofs.Likeness.{equal-parts, alike-parts}
-use Rattle.bits.proofs.Tests.{both}
+use Rattle.std.proofs.lemmas.Bool.{and_parts}
 use Rattle.filter.proofs.Settling.{when-dropped, when-over, when-lost}
 use Rattle.filter.proofs.Histories.{memory-next}
 
@@ -90,7 +90,7 @@ module _ (F : Format) where
 
         held : (k : Kind) → repeats k (holds_like mask m v) m.alike ≡ true → holds_like mask m v ≡ true
         held FillIn r = r
-        held LinkStatus r = (both (holds_like mask m v) m.alike r).0
+        held LinkStatus r = (and_parts (holds_like mask m v) m.alike r).0
         held Message r = cc
 
         as-held : (u : List ℕ) → holds_like mask m u ≡ alike mask v u
@@ -102,7 +102,7 @@ module _ (F : Format) where
             → alike mask v u && m.alike ≡ alike mask v u && holds_like mask m u
         second u s FillIn e r = rw (lengths_differ F v u e s)
         second u s LinkStatus e r =
-            ap (λ (b : Bool). alike mask v u && b) (both (holds_like mask m v) m.alike r).1 ∙ and-true (alike mask v u)
+            ap (λ (b : Bool). alike mask v u && b) (and_parts (holds_like mask m v) m.alike r).1 ∙ and-true (alike mask v u)
             ∙ sym (and_self (alike mask v u)) ∙ ap (λ (b : Bool). alike mask v u && b) (sym (as-held u))
         second u s Message e r = cc
 

@@ -10,7 +10,7 @@ use lib.Dec.{eqb}
 use lib.Pointwise.{pointwise}
 use lib.ListN.{length, take, get_or}
 use borrow.Author.Tests.{eqb-true, eq-eqb}
-use Rattle.bits.proofs.Tests.{both}
+use Rattle.std.proofs.lemmas.Bool.{and_parts}
 use Rattle.filter.specs.Unit.{masked, same, alike}
 
 -- ---- five octets
@@ -42,7 +42,7 @@ same-equal [] [] e = refl
 same-equal [] (y ∷ ys) e = cc
 same-equal (x ∷ xs) [] e = cc
 same-equal (x ∷ xs) (y ∷ ys) e =
-    let p = both (eqb x y) (same xs ys) e in
+    let p = and_parts (eqb x y) (same xs ys) e in
     ap₂ {C = List ℕ} (λ a l. a ∷ l) (eqb-true x y p.0) (same-equal xs ys p.1)
 
 pub same_self : (xs : List ℕ) → same xs xs ≡ true
@@ -66,7 +66,7 @@ pointwise-same (x ∷ xs) (y ∷ ys) = ap (λ (b : Bool). eqb x y && b) (pointwi
 -- an equal length and equal octets, as the tests have it
 pub equal-parts : (a b : ℕ) (xs ys : List ℕ) → eqb a b && same xs ys ≡ true → (a ≡ b) × (xs ≡ ys)
 equal-parts a b xs ys e =
-    let p = both (eqb a b) (same xs ys) e in
+    let p = and_parts (eqb a b) (same xs ys) e in
     (eqb-true a b p.0, same-equal xs ys p.1)
 
 module _ (mask : List ℕ) where

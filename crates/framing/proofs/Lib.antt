@@ -2,6 +2,7 @@
 pub mod Ways
 pub mod Encoding
 pub mod Readings
+pub mod Steps
 pub mod Bound
 pub mod Stops
 pub mod Judged

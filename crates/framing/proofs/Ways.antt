@@ -1,10 +1,10 @@
 -- Each way out of the one-bit step, over plain values.
 use Prim.Native.Nat.{ℕ, ◌+◌, ◌-◌, ◌*◌, ◌≤◌, ◌<◌}
 use mathlib.Core.Path.{◌≡◌, refl, sym, ap, ap₂, ◌∙◌}
-use mathlib.Core.Bool.{Bool, true, false}
+use mathlib.Core.Bool.{Bool, true, false, cond}
 use mathlib.Core.List.{List, [], ◌∷◌, ◌++◌}
 use native.Mathlib.Omega.{arith}
-use lib.ListN.{length, take}
+use lib.ListN.{length, take, set}
 use lib.Seq.{length-take-le, take-take}
 use lib.Dec.{ltb}
 use Rattle.std.specs.Prelude.{Option, None, Some}
@@ -12,7 +12,7 @@ use Rattle.std.proofs.lemmas.Bool.{false_from_ne_true}
 use borrow.Author.Tests.{lt-ltb, le-ltb}
 use Rattle.bits.specs.Octets.{line_bits, packed}
 use Rattle.bits.proofs.Digits.{snoc-length}
-use Rattle.bits.proofs.Packing.{unpack, held-length}
+use Rattle.bits.proofs.Packing.{unpack, held-length, zero-first}
 use Rattle.framing.specs.declared.Line.{Line}
 use Rattle.framing.specs.declared.Found.{Found}
 use Rattle.framing.specs.declared.Found.TheVariants.{Closed, Long}
@@ -74,6 +74,17 @@ module _ (M : ℕ) (l : Line) (area area' : List ℕ) (m : M ≤ 278) (w : IsWel
 
   unit-length : length (take (length whole - 7) whole) ≡ l.bits - 7
   unit-length = length-take-le (length whole - 7) whole (omega arith) ∙ ap (λ (x : ℕ). x - 7) (held M l area m w)
+
+  flag-nothing : (h : Bool) → l.bits ≤ 7 → cond h [] (unit (take (length whole - 7) whole)) ≡ []
+  flag-nothing true p = refl
+  flag-nothing false p = let e : length whole - 7 ≡ 0 = omega (arith, held M l area m w) in ap (λ (n : ℕ). unit (take n whole)) e
+
+  -- up to seven bits stand in the first octet
+  pub flag-none : l.bits ≤ 7 → area' ≡ set area 0 0 → Stepped M (flag (decode l area)) (step_of (line_of 0 false 0) None) area'
+  flag-none p e =
+      let n : cond l.hunting [] (unit (take (length whole - 7) whole)) ≡ [] = flag-nothing l.hunting p in
+      let z : area' ≡ packed 279 [] = e ∙ ap (λ (a : List ℕ). set a 0 0) w.zeroed ∙ zero-first 278 whole (omega (arith, held M l area m w)) in
+      record { state = refl; found = rw n; unit = rw n; holds = idle-holds M 0 false area' (omega arith) z }
 
   pub flag-closed : 7 < l.bits → Stepped M (flag (decode l area)) (step_of (line_of 0 false 0) (Some (Closed (l.bits - 7)))) area
   flag-closed p =

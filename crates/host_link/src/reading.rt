@@ -8,7 +8,8 @@ use filter::Memory;
 use framing::Line;
 use monitor::{Mode, Monitor};
 
-// The switch of a number, 0 or 1.
+// The switch of a number, 0 or 1. A function, as the next is, since neither type is this crate's, so that no TryFrom can stand here; beside Mode it
+// would serve this place alone.
 fn switch(n: u8) -> Option<bool>
     ensures { result ≡ switch_read n }
 {

@@ -78,6 +78,7 @@ impl From<Link> for HostLink {
             transmitter: HostTransmitter::from(l.transmitter),
             opened: u8::from(l.opened),
             counting: u8::from(l.units.counting.on),
+            // the mode's own number, which the equation of this function ties to that of the C interface
             mode: monitor.mode as u8,
             area,
         }

@@ -1,10 +1,10 @@
 -- One finding: what it does, way by way.
 use Prim.Native.Nat.{ℕ}
-use mathlib.Core.Path.{◌≡◌, ap, ◌∙◌}
+use mathlib.Core.Path.{◌≡◌, sym, ap, ◌∙◌}
 use mathlib.Core.List.{List, [], ◌∷◌, map}
 use native.Mathlib.Omega.{arith}
 use lib.ListN.{length, take}
-use Rattle.std.proofs.Common.{Some}
+use Rattle.std.proofs.Common.{None, Some}
 use Rattle.bits.specs.Octets.{line_bits}
 use Rattle.board.specs.Events.{event_bit}
 use Rattle.board.specs.declared.Settings.{Settings}
@@ -17,8 +17,15 @@ use Rattle.units.specs.declared.Taken.{Taken}
 use Rattle.units.specs.Indications.{found}
 use Rattle.units.specs.Units.{UnitMemory, Effect, unit_memory, effect, closed_unit, broken, effect_of}
 use Rattle.indications.specs.declared.Progress.{Progress}
-use Rattle.indications.specs.InnerWriting.{holding, indications_done, NotedAndRecorded, Shown}
-use Rattle.indications.proofs.Recording.{indication-one}
+use Rattle.indications.specs.InnerWriting.{CallState, holding, indications_done, NotedAndRecorded, Shown}
+use Rattle.indications.proofs.Recording.{indications-none, indication-one}
+
+-- nothing was found
+pub nothing-done : (s : Settings) (w : CallState) (fs : List Finding) (area : List ℕ) → Shown fs None area → w ≡ indications_done s w (map found fs)
+nothing-done s w [] area h = sym (indications-none s w)
+nothing-done s w (closed u ∷ fs) area h = let i = h.is in absurd (cc)
+nothing-done s w (abort ∷ fs) area h = let i = h.is in absurd (cc)
+nothing-done s w (long ∷ fs) area h = let i = h.is in absurd (cc)
 
 -- what is to be done at a finding that the code shows so
 abbrev pub effect_shown : Settings → UnitMemory → List ℕ → Found → Effect

@@ -44,21 +44,24 @@ pub fn note_and_record(s: Settings, p: Progress, taken: Taken, out: &mut [u8]) -
     }
 }
 
-// What one finding does. A closed unit stands in the area, which is clear afterwards.
+// What one finding does, if there is one. A closed unit stands in the area, which is clear afterwards.
 pub fn take_found(
     s: Settings,
     p: Progress,
-    found: Found,
+    found: Option<Found>,
     area: &mut [u8; 279],
     pool: &mut [u8],
     descriptors: &mut [u16],
     out: &mut [u8],
 ) -> Progress
     requires able { Able s p pool.old descriptors.old out.old }
-    requires stands_in { StandsIn (Some found) area.old }
-    ensures out_after { (fs : List Finding) → Shown fs (Some found) area.old → holding result pool.new descriptors.new out.new ≡ indications_done s (holding p pool.old descriptors.old out.old) (map found-indication fs) }
-    ensures area_after { area.new ≡ area_after (Some found) area.old }
+    requires stands_in { StandsIn found area.old }
+    ensures out_after { (fs : List Finding) → Shown fs found area.old → holding result pool.new descriptors.new out.new ≡ indications_done s (holding p pool.old descriptors.old out.old) (map found-indication fs) }
+    ensures area_after { area.new ≡ area_after found area.old }
 {
+    let Some(found) = found else {
+        return p;
+    };
     let taken = match found {
         Found::Closed(bits) => {
             let taken = units::closed_unit(s, p.units, area, bits, pool, descriptors);

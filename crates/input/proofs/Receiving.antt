@@ -24,7 +24,7 @@ use Rattle.reception.specs.Line.{board_after, line_happenings, line_records}
 use Rattle.reception.specs.InnerWriting.{StateInRange, LineTaken}
 use Rattle.input.specs.Refusals.{receive_number}
 use Rattle.input.specs.InnerProgress.{progress_of}
-use Rattle.input.specs.Receive.{board_of, received, receive_answer}
+use Rattle.input.specs.Receive.{ReceiveOutcome, board_of, received, receive_answer}
 use Rattle.link.proofs.Faults.{none}
 use Rattle.link.proofs.Answers.{done, fit_memory}
 
@@ -79,9 +79,10 @@ module _ (l : Link) (octets pool descriptors records : List ℕ) where
         }
 
   -- ---- the answer
-  is-received : (p : Passed) (area' pool' descriptors' records' : List ℕ) → l.settings.m ≤ 278
-      → LineTaken l.settings l.line.state l.line.area octets (holding (progress_of l) pool descriptors records) p area' (holding p.progress pool' descriptors' records')
-      → record {
+  -- what the code gives, and what it has shown of a line that was taken
+  abbrev given : Passed → List ℕ → List ℕ → List ℕ → List ℕ → ReceiveOutcome
+  given p area' pool' descriptors' records' =
+      record {
         number = 0;
         link = with_reception l (record { state = p.line; area = area' }) p.progress.units p.progress.supervision;
         count = p.progress.count;
@@ -89,7 +90,13 @@ module _ (l : Link) (octets pool descriptors records : List ℕ) where
         descriptors = descriptors';
         records = records';
       }
-      ≡ received l octets pool descriptors records
+
+  abbrev Taken : Passed → List ℕ → List ℕ → List ℕ → List ℕ → Type 0
+  Taken p area' pool' descriptors' records' =
+      LineTaken l.settings l.line.state l.line.area octets (holding (progress_of l) pool descriptors records) p area' (holding p.progress pool' descriptors' records')
+
+  is-received : (p : Passed) (area' pool' descriptors' records' : List ℕ) → l.settings.m ≤ 278
+      → Taken p area' pool' descriptors' records' → given p area' pool' descriptors' records' ≡ received l octets pool descriptors records
   unfolding indications_done board_after line_happenings line_records
   is-received p area' pool' descriptors' records' m t =
       let g : Receiver = line_receiver l.settings.m (decode l.line.state l.line.area) octets in
@@ -121,17 +128,8 @@ module _ (l : Link) (octets pool descriptors records : List ℕ) where
         × (length octets ≤ 1024)
     may_take_line typed = let ok = receivable (sym n) in (held ok typed, omega (arith, ok.room), ok.few)
 
-    pub receive_done : (t : Passed) (area' pool' descriptors' records' : List ℕ)
-        → LineTaken l.settings l.line.state l.line.area octets (holding (progress_of l) pool descriptors records) t area' (holding t.progress pool' descriptors' records')
-        → record {
-          number = 0;
-          link = with_reception l (record { state = t.line; area = area' }) t.progress.units t.progress.supervision;
-          count = t.progress.count;
-          pool = pool';
-          descriptors = descriptors';
-          records = records';
-        }
-        ≡ receive_answer l octets pool descriptors records
+    pub receive_done : (p : Passed) (area' pool' descriptors' records' : List ℕ)
+        → Taken p area' pool' descriptors' records' → given p area' pool' descriptors' records' ≡ receive_answer l octets pool descriptors records
     unfolding receive_answer
-    receive_done t area' pool' descriptors' records' taken =
-        is-received t area' pool' descriptors' records' (receivable (sym n)).formed.settings.m.1 taken ∙ sym (done _ _ _ (sym n))
+    receive_done p area' pool' descriptors' records' taken =
+        is-received p area' pool' descriptors' records' (receivable (sym n)).formed.settings.m.1 taken ∙ sym (done _ _ _ (sym n))

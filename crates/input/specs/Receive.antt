@@ -1,5 +1,5 @@
 -- Receive: line octets in; the link, the lent memory and the records after them.
-use Rattle.std.specs.Prelude.{cond, ℕ, List, eqb, length, Result, Ok, Err}
+use Rattle.std.specs.Prelude.{cond, ℕ, List, eqb, length, Result}
 use Rattle.std.proofs.lemmas.List.Edits.{sets}
 use Rattle.framing.specs.Representation.{decode, encode, encode_area}
 use Rattle.board.specs.declared.Link.{Link}
@@ -7,7 +7,7 @@ use Rattle.board.specs.With.{with_reception}
 use Rattle.units.specs.Units.{unit_memory}
 use Rattle.reception.specs.Line.{Board, board_after, line_happenings, line_records}
 use Rattle.link.specs.declared.Refusal.{Refusal}
-use Rattle.link.specs.Answer.{refusal_number}
+use Rattle.link.specs.Answer.{number_of, counted_link, count_of}
 use Rattle.link.specs.declared.Counted.{Counted}
 use Rattle.input.specs.Refusals.{receive_number}
 
@@ -49,10 +49,8 @@ received l octets pool descriptors records =
 
 -- what the code gives on link l, and the lent memory and records as they stand then
 abbrev pub outcome_of : Link → Result Counted Refusal → List ℕ → List ℕ → List ℕ → ReceiveOutcome
-outcome_of l (Ok r) pool descriptors records =
-    record { number = 0; link = r.link; count = r.count; pool = pool; descriptors = descriptors; records = records }
-outcome_of l (Err refusal) pool descriptors records =
-    record { number = refusal_number refusal; link = l; count = 0; pool = pool; descriptors = descriptors; records = records }
+outcome_of l r pool descriptors records =
+    record { number = number_of r; link = counted_link l r; count = count_of r; pool = pool; descriptors = descriptors; records = records }
 
 unfoldable pub receive_answer : Link → List ℕ → List ℕ → List ℕ → List ℕ → ReceiveOutcome
 receive_answer l octets pool descriptors records =

@@ -10,7 +10,7 @@ ghost use Rattle.input.specs.Receive.{outcome_of, receive_answer};
 use board::{Gathering, Link};
 use indications::Progress;
 use link::{Counted, Refusal};
-use reception::{ByBits, Engine};
+use reception::{ByBits, Engine, Passed};
 
 // The faults that receive finds on a link, line octets, memory and a record area, which a host lends one by one, as C hands them in.
 #[tactic(auto, unfolding(crate::specs::Refusals::receive_number, link::specs::Refusals::clear_number, link::specs::Refusals::first))]
@@ -48,16 +48,19 @@ pub fn receive_by<E: Engine>(
     ensures { outcome_of link result pool.new descriptors.new records.new ≡ receive_answer link octets.now pool.old descriptors.old records.old }
 {
     check_receiving(&link, octets, pool, descriptors, records)?;
-    let start = Progress {
-        units: link.units,
-        supervision: link.supervision,
-        count: 0,
+    // the link goes in whole; an engine takes these of its parts
+    let before = Passed {
+        line: link.line.state,
+        progress: Progress {
+            units: link.units,
+            supervision: link.supervision,
+            count: 0,
+        },
     };
     let mut area = link.line.area;
     let passed = E::take_line(
         link.settings,
-        link.line.state,
-        start,
+        before,
         octets,
         &mut area,
         pool,

@@ -26,16 +26,6 @@ use Rattle.input.specs.Receive as Receive
 use Rattle.input.specs.Receive.{ReceiveOutcome, receive_answer}
 use Rattle.lineview_board.specs.View.{booking_opened, handed_from, filled_back, octet_fed}
 
--- what a call on link l gives, with the link as it was where it is refused
-outcome-is : (l : Link) (r : Result Link Refusal) (pool descriptors : List ℕ)
-    → outcome_of l r pool descriptors ≡ record { number = number_of r; link = result_unwrap_or r l; pool = pool; descriptors = descriptors }
-outcome-is l (Ok x) pool descriptors = refl
-outcome-is l (Err x) pool descriptors = refl
-
-answer-is : (l : Link) (r : Result Link Refusal) → answered l r ≡ record { number = number_of r; link = result_unwrap_or r l }
-answer-is l (Ok x) = refl
-answer-is l (Err x) = refl
-
 -- opened, then the failure monitor started
 pub opened_is : (s : Settings) (pool descriptors p d : List ℕ) (closed opened started : Link) (r q : Result Link Refusal) → closed ≡ new_link
     → outcome_of closed r p d ≡ open_answer closed s pool descriptors → opened ≡ result_unwrap_or r closed
@@ -43,9 +33,9 @@ pub opened_is : (s : Settings) (pool descriptors p d : List ℕ) (closed opened 
     → record { link = started; pool = p; descriptors = d } ≡ booking_opened s pool descriptors
 unfolding booking_opened
 opened_is s pool descriptors p d closed opened started r q new eo o ea a =
-    let e = sym eo ∙ outcome-is closed r p d in
+    let e = sym eo in
     let ee : open_answer new_link s pool descriptors ≡ record { number = number_of r; link = result_unwrap_or r closed; pool = p; descriptors = d } = ap (λ (x : Link). open_answer x s pool descriptors) (sym new) ∙ e in
-    let f = sym ea ∙ answer-is opened q in
+    let f = sym ea in
     let link : (command_answer (open_answer new_link s pool descriptors).link 2).link ≡ started =
     ap (λ (x : Outcome). (command_answer x.link 2).link) ee ∙ ap (λ (x : Link). (command_answer x 2).link) (sym o) ∙ ap (λ (x : Answer). x.link) f ∙ sym a in
     sym (λ i. record { link = link i; pool = (ee i).pool; descriptors = (ee i).descriptors })
@@ -60,7 +50,7 @@ hand-link l pool descriptors slot = go (eqb (read_number l pool descriptors slot
     go false e = rw e
 
 -- and refuses a slot that is empty, whatever else is wrong
-empty-unread : (l : Link) (pool descriptors : List ℕ) (slot : ℕ) → read_number l pool descriptors slot ≡ 0 → status_of descriptors slot ≡ status_word Empty → ⊥
+pub empty-unread : (l : Link) (pool descriptors : List ℕ) (slot : ℕ) → read_number l pool descriptors slot ≡ 0 → status_of descriptors slot ≡ status_word Empty → ⊥
 unfolding read_number
 empty-unread l pool descriptors slot z e =
     let n1 = none _ _ _ (λ q. omega arith) z in
@@ -82,15 +72,14 @@ left : (slot : ℕ) → slot < 16 → suc (16 - (slot + 1)) ≡ 16 - slot
 left slot below = omega arith
 
 -- what the call leaves of a slot, with the link as it was
-slot-handed : (h : Held) (slot : ℕ) (r : Result Link Refusal) (p d : List ℕ) → outcome_of h.link r p d ≡ hand_answer h.link h.pool h.descriptors slot
+pub slot-handed : (h : Held) (slot : ℕ) (r : Result Link Refusal) (p d : List ℕ) → outcome_of h.link r p d ≡ hand_answer h.link h.pool h.descriptors slot
     → record { link = h.link; pool = p; descriptors = d } ≡ handed_back h slot
 slot-handed h slot r p d e =
     let link = sym (hand-link h.link h.pool h.descriptors slot) in
-    let o = sym (outcome-is h.link r p d) ∙ e in
-    λ i. record { link = link i; pool = (o i).pool; descriptors = (o i).descriptors }
+    λ i. record { link = link i; pool = (e i).pool; descriptors = (e i).descriptors }
 
 -- an empty slot is as the call would leave it
-slot-empty : (h : Held) (slot : ℕ) → status_of h.descriptors slot ≡ status_word Empty → h ≡ handed_back h slot
+pub slot-empty : (h : Held) (slot : ℕ) → status_of h.descriptors slot ≡ status_word Empty → h ≡ handed_back h slot
 slot-empty h slot e =
     let a = refused-hand-back h.link h.pool h.descriptors slot (λ z. empty-unread h.link h.pool h.descriptors slot z e) in
     sym (ap {B = Held} (λ (x : Outcome). record { link = x.link; pool = x.pool; descriptors = x.descriptors }) a)

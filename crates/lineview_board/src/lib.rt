@@ -47,11 +47,12 @@ pub fn open_board(pool: &mut [u8], descriptors: &mut [u16]) -> Link
     open_booking(settings(), pool, descriptors)
 }
 
-// Whether a slot's status is not empty; a slot past the end of the descriptors counts as filled, and the call then refuses it.
-fn is_filled(descriptors: &[u16], slot: u16) -> bool
+// Whether a slot's status is not empty; a slot past the end of the descriptors counts as filled, and the call then refuses it. One line over
+// `memory::word_at`, as its negation for the next slot in `units` is: no plainer as a function of `memory` that both negate or not.
+pub fn is_filled(descriptors: &[u16], slot: u16) -> bool
     ensures { result ≡ not (eqb (status_of descriptors.now slot) (status_word Empty)) }
 {
-    memory::word_at(descriptors, 2 * slot as usize) != Link::STATUS_EMPTY
+    memory::word_at(descriptors, 2 * usize::from(slot)) != Link::STATUS_EMPTY
 }
 
 // Hands back each slot that is not empty: for an empty one the call is refused and changes nothing. The link stays as it is.

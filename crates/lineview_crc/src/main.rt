@@ -1,4 +1,4 @@
-// lineview on a line of 2,000 units that an independent program makes, tests/crc_units.py.
+// lineview on a line of 2,000 units that an independent program makes, tests/crc_units.py: likewise a program of its own.
 
 #![tactic(auto)]
 

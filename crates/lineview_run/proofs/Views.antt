@@ -3,10 +3,10 @@ use Prim.Native.Nat.{ℕ, ◌+◌, ◌-◌, ◌*◌, ◌≤◌, ◌<◌}
 use mathlib.Core.Path.{◌≡◌, refl, sym, ap, ap₂, ◌∙◌, subst}
 use mathlib.Core.List.{List, [], ◌∷◌, ◌++◌, append-nil, append_assoc}
 use lib.ListN.{length, take, get_or, drop, drop_of_length-le}
-use lib.Seq.{drop-cons, length-take-le, take-append-add, take-append-le}
+use lib.Seq.{drop-cons}
 use native.Mathlib.Numerals.{add-one}
 use native.Mathlib.Omega.{arith}
-use borrow.Rule.Slice.PartMut.{mid_of, post_of, put_mid, mid_len}
+use borrow.Rule.Slice.PartMut.{mid_of, put_mid, mid_len}
 use Rattle.board.specs.Limits.{record_octets, record_room}
 use Rattle.input.specs.Receive.{ReceiveOutcome}
 use Rattle.link.specs.Held.{Held}
@@ -16,6 +16,7 @@ use Rattle.std.specs.Prelude.{Option}
 use Rattle.std.specs.Io.KnownBytes.{Consumes, Appends}
 use Rattle.std.proofs.KnownBytes.{Appends-nil, Consumes-trans, Appends-trans}
 use Rattle.bits.proofs.Machines.{run-append, outs-append}
+use Rattle.bits.proofs.Parts.{filled}
 use Rattle.lineview_run.specs.View.{all_passed, Views}
 
 octet-step : (h : Held) (octet : ℕ) (rest : List ℕ) → all_passed h (octet ∷ rest) ≡ all_passed (passed h octet) rest
@@ -42,16 +43,6 @@ pub record Fed (octets : List ℕ) (h₀ h : Held) (area : List ℕ) (at i : ℕ
 
 pub fed-none : (octets : List ℕ) (h : Held) (area : List ℕ) → Fed octets h h area 0 0
 fed-none octets h area = record { held = refl; records = refl; few = omega arith }
-
--- the records of an octet, behind those before them
-behind : (area records : List ℕ) (at n : ℕ) → at ≤ length area → n ≤ length records
-    → take (at + n) (put_mid at (length area - at) area records) ≡ take at area ++ take n records
-behind area records at n room fits =
-    let front : length (take at area) ≡ at = length-take-le at area room in
-    let after = post_of at (length area - at) area in
-    ap (λ (k : ℕ). take (k + n) (take at area ++ (records ++ after))) (sym front)
-    ∙ take-append-add (take at area) (records ++ after) n
-    ∙ ap (λ (xs : List ℕ). take at area ++ xs) (take-append-le n records after fits)
 
 -- one octet more
 module _ (octets : List ℕ) (h₀ h : Held) (area : List ℕ) (at i : ℕ) (below : i < length octets) (room : at + record_room ≤ length area) (so_far : Fed octets h₀ h area at i) where
@@ -84,7 +75,7 @@ module _ (octets : List ℕ) (h₀ h : Held) (area : List ℕ) (at i : ℕ) (bel
             ∙ sym (ap (all_passed h) next ∙ octet-step h octet (drop (i + 1) octets)) ∙ so_far.held;
         records =
             ap₂ (λ (xs : List ℕ) (x : Held). xs ++ all_written x (drop (i + 1) octets))
-            (behind area f.records at (record_octets * f.count) (omega arith) (omega (arith, lent-room)) ∙ ap (λ (xs : List ℕ). take at area ++ xs) records) held
+            (sym (filled area f.records at (record_octets * f.count) (omega arith) (omega (arith, lent-room))) ∙ ap (λ (xs : List ℕ). take at area ++ xs) records) held
             ∙ append_assoc (take at area) (view_records h octet) (all_written (passed h octet) (drop (i + 1) octets))
             ∙ ap (λ (xs : List ℕ). take at area ++ xs) (sym (ap (all_written h) next ∙ record-step h octet (drop (i + 1) octets))) ∙ so_far.records;
         few = omega (arith, so_far.few);

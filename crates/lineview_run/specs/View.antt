@@ -4,6 +4,11 @@ use Rattle.std.specs.Io.KnownBytes.{Consumes, Appends}
 use Rattle.bits.specs.Machine.{run}
 use Rattle.link.specs.Held.{Held}
 use Rattle.lineview_board.specs.View.{passed, all_written}
+use Rattle.lineview_run.specs.declared.Booking.{Booking}
+
+-- the board that a booking's link and memory make up
+abbrev pub held : Booking → Held
+held b = record { link = b.link; pool = b.pool; descriptors = b.descriptors }
 
 -- the booking after line octets, "one octet at a time"
 unfoldable pub all_passed : Held → List ℕ → Held

@@ -1,4 +1,4 @@
-// lineview on a longer line.
+// lineview on a longer line: a program of its own, since the test runs each program on one input.
 
 #![tactic(auto)]
 

@@ -8,13 +8,12 @@ use lib.Dec.{eqb, ltb}
 use lib.ListN.{length, take, drop}
 use lib.Seq.{take-take}
 use borrow.Author.Tests.{eq-eqb, ne_eqb, eqb-true, leb-false, ltb-false, not-false}
-use Rattle.std.proofs.lemmas.Bool.{cond-true, cond-false}
+use Rattle.std.proofs.lemmas.Bool.{cond-true, cond-false, and_parts, or_parts}
 use Rattle.bits.specs.Format.{basic}
 use Rattle.memory.specs.Lent.{zeros, status_of, length_of}
 use Rattle.board.specs.declared.Settings.{Settings}
 use Rattle.board.specs.declared.Link.{Link}
 use Rattle.board.specs.Malformed.{in_range, malformed}
-use Rattle.bits.proofs.Tests.{both, neither}
 use Rattle.link.specs.Refusals.{is_filled, fits_memory, open_number, read_number}
 use Rattle.link.specs.Calls.{read_part}
 use Rattle.link.proofs.Faults.{none}
@@ -30,7 +29,7 @@ refused n a b z = cond-false _ a b (ne_eqb n 0 z)
 pub fit_memory : (k : ℕ) (pool descriptors : List ℕ) → fits_memory basic k pool descriptors ≡ true
     → (length pool ≡ 280 * k) × (length descriptors ≡ 2 * k)
 unfolding fits_memory
-fit_memory k pool descriptors e = let fits = both _ _ e in (eqb-true _ _ fits.0, eqb-true _ _ fits.1)
+fit_memory k pool descriptors e = let fits = and_parts _ _ e in (eqb-true _ _ fits.0, eqb-true _ _ fits.1)
 
 -- ---- open
 pub record Openable (l : Link) (s : Settings) (pool descriptors : List ℕ) : Type 0 where
@@ -53,7 +52,7 @@ module _ (l : Link) (s : Settings) (pool descriptors : List ℕ) where
       let n5 = none _ _ _ (λ z. omega arith) n4.1 in
       let n6 = none _ _ _ (λ z. omega arith) n5.1 in
       let fits = fit_memory _ _ _ (not-false _ n5.0) in
-      let clean = both _ _ (not-false _ n6.0) in
+      let clean = and_parts _ _ (not-false _ n6.0) in
       record {
         good = n1.0;
         closed = n3.0;
@@ -95,7 +94,7 @@ module _ (l : Link) (pool descriptors : List ℕ) (slot : ℕ) where
         octets = fits.0;
         words = fits.1;
         below = leb-false _ _ n12.0;
-        short = ltb-false 278 (length_of descriptors slot) (neither (not (is_filled (status_of descriptors slot))) (ltb 278 (length_of descriptors slot)) n13.0).1;
+        short = ltb-false 278 (length_of descriptors slot) (or_parts (not (is_filled (status_of descriptors slot))) (ltb 278 (length_of descriptors slot)) n13.0).1;
       }
 
   pub slot_bounds : 0 ≡ read_number l pool descriptors slot

@@ -6,7 +6,7 @@ use mathlib.Core.List.{List, [], ◌∷◌, ◌++◌, append-nil}
 use native.Mathlib.Omega.{arith}
 use lib.Dec.{ltb}
 use borrow.Author.Tests.{ltb-true, not-true}
-use Rattle.bits.proofs.Tests.{both}
+use Rattle.std.proofs.lemmas.Bool.{and_parts}
 use Rattle.link.specs.Refusals.{Fault, fault, first}
 use Rattle.link.specs.Tables.{none_found, rising}
 use Rattle.link.specs.Promises.{FirstFault, NoFault, TablesRise}
@@ -22,14 +22,14 @@ skip : (before rest : List Fault) → none_found before ≡ true → first (befo
 unfolding first none_found
 skip [] rest e = refl
 skip (f ∷ fs) rest e =
-    let p = both (not f.found) (none_found fs) e in
+    let p = and_parts (not f.found) (none_found fs) e in
     rw (not-true f.found p.0) (skip fs rest p.1)
 
 -- ---- a table that rises from above m
 step : (m : ℕ) (f : Fault) (fs : List Fault) → rising m (f ∷ fs) ≡ true → (m < f.number) × (rising f.number fs ≡ true)
 unfolding rising
 step m f fs r =
-    let p = both (ltb m f.number) (rising f.number fs) r in
+    let p = and_parts (ltb m f.number) (rising f.number fs) r in
     (ltb-true m f.number p.0, p.1)
 
 -- what it gives is 0 or above m

@@ -1,6 +1,8 @@
 -- What a call answers: its number, 0 or that of its refusal, and the link, which a refusal leaves as it was given.
 use Rattle.std.specs.Prelude.{ℕ, Result, Ok, Err}
+use Rattle.std.specs.Result.{result_unwrap_or}
 use Rattle.board.specs.declared.Link.{Link}
+use Rattle.link.specs.declared.Counted.{Counted}
 use Rattle.link.specs.declared.Refusal.{Refusal}
 use Rattle.link.specs.declared.Refusal.TheVariants.{Malformed, Closed, AlreadyOpen, SettingOutOfRange, WrongMemory, NotZero, LineTooLong, FewRecords, ShortOutput, ContentLength, UnknownCommand, NoSuchSlot, Unreadable}
 
@@ -30,5 +32,13 @@ number_of (Err refusal) = refusal_number refusal
 
 -- the answer of a call on link l
 abbrev pub answered : Link → Result Link Refusal → Answer
-answered l (Ok after) = record { number = 0; link = after }
-answered l (Err refusal) = record { number = refusal_number refusal; link = l }
+answered l r = record { number = number_of r; link = result_unwrap_or r l }
+
+-- the link and the count of a call that counts, on link l: a refusal leaves the link as given, and counts nothing
+abbrev pub counted_link : Link → Result Counted Refusal → Link
+counted_link l (Ok counted) = counted.link
+counted_link l (Err refusal) = l
+
+abbrev pub count_of : Result Counted Refusal → ℕ
+count_of (Ok counted) = counted.count
+count_of (Err refusal) = 0

@@ -1,6 +1,7 @@
 -- What each call answers, and what stands in the lent memory then. "A refusal returns its number, the link as given and zero for
 -- every other number of the answer; a refused read returns an empty part. No lent octet or word changes."
-use Rattle.std.specs.Prelude.{ℕ, true, false, cond, List, [], eqb, take, Result, Ok, Err}
+use Rattle.std.specs.Prelude.{ℕ, true, false, cond, List, [], eqb, take, Result}
+use Rattle.std.specs.Result.{result_unwrap_or}
 use Rattle.std.specs.Int.Bits.{bit_and, bit_xor}
 use Rattle.bits.specs.Format.{basic}
 use Rattle.memory.specs.declared.Status.TheVariants as statuses
@@ -10,7 +11,7 @@ use Rattle.board.specs.declared.Link.{Link}
 use Rattle.board.specs.Link.{new_link, new_units}
 use Rattle.board.specs.With.{with_supervision}
 use Rattle.link.specs.declared.Refusal.{Refusal}
-use Rattle.link.specs.Answer.{Answer, refusal_number}
+use Rattle.link.specs.Answer.{Answer, number_of}
 use Rattle.link.specs.Commands.{command_of, obeying}
 use Rattle.link.specs.Refusals.{open_number, command_number, clear_number, read_number}
 
@@ -26,8 +27,7 @@ outcome n l pool descriptors = record { number = n; link = l; pool = pool; descr
 
 -- what the code gives on link l, and pool and descriptors as they stand then
 abbrev pub outcome_of : Link → Result Link Refusal → List ℕ → List ℕ → Outcome
-outcome_of l (Ok after) pool descriptors = outcome 0 after pool descriptors
-outcome_of l (Err refusal) pool descriptors = outcome (refusal_number refusal) l pool descriptors
+outcome_of l r pool descriptors = outcome (number_of r) (result_unwrap_or r l) pool descriptors
 
 -- "monitor off, all counts zero; N's counter is N, the next slot 0, the settings those given, no event bit set, octet counting off,
 -- the link open, the rest as in the new link"

@@ -8,7 +8,7 @@ ghost use Rattle.link.specs.Calls.{command_answer};
 use board::{Counting, Link, Supervision, UnitState};
 use filter::Memory;
 use link::{Command, Refusal};
-use monitor::Monitor;
+use monitor::{Mode, Monitor};
 
 // The link with another monitor.
 fn with_monitor(link: Link, monitor: Monitor) -> Link
@@ -32,8 +32,8 @@ fn obey(link: Link, command: Command) -> Link
     let units = link.units;
     match command {
         Command::MonitorOff => with_monitor(link, monitor.stop()),
-        Command::StartFailure => with_monitor(link, Monitor::failure()),
-        Command::StartAlignment => with_monitor(link, Monitor::alignment()),
+        Command::StartFailure => with_monitor(link, Monitor::started(Mode::Failure)),
+        Command::StartAlignment => with_monitor(link, Monitor::started(Mode::Alignment)),
         Command::MustHandOver => Link {
             units: UnitState {
                 memory: Memory::empty(),

@@ -41,7 +41,8 @@ fn check_slot(link: &Link, pool: &[u8], descriptors: &[u16], slot: u16) -> Resul
     Ok(())
 }
 
-// Read's companion: the number that read and hand back answer. A number and no Result: the C export pj_read_number_value gives it as it is.
+// Read's companion: the number that read and hand back answer. A number and no Result, since it never fails: that a read is refused is its answer,
+// which the C export pj_read_number_value gives as it is.
 pub fn read_number(link: Link, pool: &[u8], descriptors: &[u16], slot: u16) -> u8
     ensures { result ≡ read_number link pool.now descriptors.now slot }
 {

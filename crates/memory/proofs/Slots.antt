@@ -11,7 +11,7 @@ use borrow.Author.Tests.{eqb-true, eqb-false}
 use lib.Dec.{eqb}
 use lib.ListN.{length, get_or, take, drop, set, replicate, length-append, length-drop, length-set, length-replicate, take-append-drop}
 use lib.Seq.{length-take-le, take-append-le, take-append_seam, take_at, drop-append-le, drop_at, drop-drop, get_or-set_same, get_or-set_other}
-use Rattle.bits.proofs.Tests.{both}
+use Rattle.std.proofs.lemmas.Bool.{and_parts}
 use Rattle.bits.specs.Format.{Format}
 use Rattle.memory.specs.Lent.{zeros, wiped, empty_descriptors, slot_of, with_slot, with_descriptor, filled, empty_slot, next_slot}
 use Rattle.memory.specs.Promises.{SlotWritten, SlotKept, PoolLength, DescriptorWritten, DescriptorKept, DescriptorsLength, EmptyLength, EmptyEach, ZerosExact, WipedZeros, EmptySlotLength, FilledLength, FilledFront, NextBelow}
@@ -128,7 +128,7 @@ empty-each (suc k) (suc s) h =
     rw (f, e) (empty-each k s (omega arith))
 
 -- ---- zeros
-zeros-replicate : (n : ℕ) → zeros (replicate n 0) ≡ true
+pub zeros-replicate : (n : ℕ) → zeros (replicate n 0) ≡ true
 unfolding zeros
 zeros-replicate zero = refl
 zeros-replicate (suc n) = zeros-replicate n
@@ -137,7 +137,7 @@ all-zero : (xs : List ℕ) → zeros xs ≡ true → xs ≡ replicate (length xs
 unfolding zeros
 all-zero [] e = refl
 all-zero (x ∷ xs) e =
-    let p = both (eqb x 0) (zeros xs) e in
+    let p = and_parts (eqb x 0) (zeros xs) e in
     ap₂ {C = List ℕ} (λ a b. a ∷ b) (eqb-true x 0 p.0) (all-zero xs p.1)
 
 pub zeros-exact : ZerosExact

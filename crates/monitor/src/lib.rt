@@ -45,25 +45,15 @@ pub struct Stepped {
 }
 
 impl Monitor {
-    // A new monitor, which has not been started.
-    pub fn off() -> Self
-        ensures { result ≡ started Mode.Off }
+    // Both counts zero: a new monitor is off, and commands 2 and 3 start the two others.
+    pub fn started(mode: Mode) -> Self
+        ensures { result ≡ started mode }
     {
-        zeroed(Mode::Off)
-    }
-
-    // Command 2.
-    pub fn failure() -> Self
-        ensures { result ≡ started Mode.Failure }
-    {
-        zeroed(Mode::Failure)
-    }
-
-    // Command 3.
-    pub fn alignment() -> Self
-        ensures { result ≡ started Mode.Alignment }
-    {
-        zeroed(Mode::Alignment)
+        Monitor {
+            mode,
+            count: 0,
+            number: 0,
+        }
     }
 
     // Command 1: the counts stay.
@@ -76,7 +66,8 @@ impl Monitor {
         }
     }
 
-    // One event, errored or not. The counts of a link that is not malformed are far below the bound.
+    // One event, errored or not. The counts of a link that is not malformed are far below the bound, here and below; they are bounds of
+    // functions and no type's invariant, since the C link holds these numbers, and a host may give any.
     #[tactic(auto, unfolding(crate::specs::Monitor::step))]
     pub fn step(self, limits: Limits, errored: bool) -> Stepped
         requires { (self.count < 65535) × (self.number < 65535) }
@@ -154,16 +145,5 @@ impl Monitor {
             monitor: self,
             alarm: None,
         }
-    }
-}
-
-// A monitor with both counts zero.
-fn zeroed(mode: Mode) -> Monitor
-    ensures { result ≡ started mode }
-{
-    Monitor {
-        mode,
-        count: 0,
-        number: 0,
     }
 }

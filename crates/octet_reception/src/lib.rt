@@ -8,11 +8,11 @@ ghost use Rattle.indications.specs.InnerWriting.{CanRecord, holding, indications
 ghost use Rattle.octet_reception.specs.Counter.{wound_by};
 
 use board::{Counting, Settings};
-use framing::Line;
 use indications::Progress;
 use reception::{Engine, Passed};
 
-// N's counter after `gone` octets: it runs down to its end, and from N again.
+// N's counter after `gone` octets: it runs down to its end, and from N again. N and the counter are fields of the C link, where they may be 0,
+// so that they are 1 or more is each function's `requires`. The casts lose nothing: `gone` is below the counter, and what is left over below N.
 fn wound(n: u16, left: u16, gone: usize) -> u16
     requires { (1 ≤ n) × (1 ≤ left) }
     ensures { result ≡ wound_by n left gone }
@@ -25,7 +25,8 @@ fn wound(n: u16, left: u16, gone: usize) -> u16
     n - since as u16
 }
 
-// The ends of `gone` octets in which nothing was found; in octet counting at most so many as the counter has left.
+// The ends of `gone` octets in which nothing was found; no plainer as one function with `indications::end_octet`, whose octet may also find
+// something, and which asks nothing of `on`. In octet counting at most so many as the counter has left.
 pub fn end_octets(s: Settings, p: Progress, gone: usize, out: &mut [u8]) -> Progress
     requires settings_in_range { CanRecord s p out.old }
     requires le_left { (1 ≤ p.units.counting.left) × (p.units.counting.on ≡ true → gone ≤ p.units.counting.left) }
@@ -55,16 +56,16 @@ pub struct ByOctets;
 impl Engine for ByOctets {
     fn take_line(
         s: Settings,
-        line: Line,
-        p: Progress,
+        before: Passed,
         octets: &[u8],
         area: &mut [u8; 279],
         pool: &mut [u8],
         descriptors: &mut [u16],
         out: &mut [u8],
     ) -> Passed {
-        let mut passed = Passed { line, progress: p };
+        let mut passed = before;
         let mut rest = octets;
+        // a turn takes a run of octets, as long as nothing is found in it
         while !rest.is_empty() {
             let p = passed.progress;
             let run = &rest[..together(p.units.counting, rest.len())];
@@ -75,16 +76,7 @@ impl Engine for ByOctets {
             };
             rest = &rest[scan.taken..];
             if scan.taken < run.len() {
-                passed = reception::take_octet(
-                    s,
-                    passed.line,
-                    passed.progress,
-                    rest[0],
-                    area,
-                    pool,
-                    descriptors,
-                    out,
-                );
+                passed = reception::take_octet(s, passed, rest[0], area, pool, descriptors, out);
                 rest = &rest[1..];
             }
         }

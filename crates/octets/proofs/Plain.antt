@@ -1,38 +1,26 @@
 -- Bits in which no flag and no abort ends: what they do to a receiver.
 use Prim.Native.Nat.{ℕ, ◌+◌, ◌*◌, ◌≤◌, ◌<◌}
-use mathlib.Core.Path.{◌≡◌, refl, sym, ap, subst, ◌∙◌}
+use mathlib.Core.Path.{◌≡◌, refl, sym, ap, ◌∙◌}
 use mathlib.Core.Bool.{Bool, true, false, not}
 use mathlib.Core.List.{List, [], ◌∷◌, ◌++◌, append_assoc, append-nil}
 use native.Mathlib.Omega.{arith}
-use borrow.Author.Tests.{le-ltb, not-true}
+use borrow.Author.Tests.{not-true}
 use lib.Dec.{eqb}
 use lib.ListN.{length, length-append}
-use Rattle.bits.proofs.Tests.{both}
-use Rattle.framing.specs.Delimitation.{Receiver, Finding, inside, hunts, gather, step_bit, receiver_after, findings}
+use Rattle.std.proofs.lemmas.Bool.{and_parts}
+use Rattle.framing.specs.Delimitation.{inside, hunts, step_bit}
+use Rattle.framing.proofs.Steps.{bit-then, gathers, hunted-zero}
 use Rattle.octets.specs.Rows.{run_next, kept_of, run_over, kept, plain}
 use Rattle.octets.specs.Plain.{PlainInside, PlainHunting}
-
--- a receiver reads bits, and finds nothing on the way
-abbrev Quietly : ℕ → Receiver → List Bool → Receiver → Type 0
-Quietly M s bs s' = (receiver_after M s bs ≡ s') × (findings M s bs ≡ [])
-
-quiet-bit : (M : ℕ) (s s' s'' : Receiver) (b : Bool) (bs : List Bool) → step_bit M s b ≡ (s', []) → Quietly M s' bs s'' → Quietly M s (b ∷ bs) s''
-quiet-bit M s s' s'' b bs e q = (
-  ap (λ (st : Receiver × List Finding). receiver_after M st.0 bs) e ∙ q.0,
-  ap (λ (st : Receiver × List Finding). st.1 ++ findings M st.0 bs) e ∙ q.1,
-)
 
 -- the first of plain bits, and those after it
 pub plain-first : (r : ℕ) (b : Bool) (bs : List Bool) → plain r (b ∷ bs) ≡ true → (eqb r 6 ≡ false) × (plain (run_next r b) bs ≡ true)
 unfolding plain
 plain-first r b bs p =
-    let t = both (not (eqb r 6)) (plain (run_next r b) bs) p in
+    let t = and_parts (not (eqb r 6)) (plain (run_next r b) bs) p in
     (not-true (eqb r 6) t.0, t.1)
 
 -- ---- inside a unit
-gathers : (M r r' : ℕ) (b : Bool) (g : List Bool) → length g < 8 * M + 7 → gather M (inside r g) r' b ≡ (inside r' (g ++ (b ∷ [])), [])
-gathers M r r' b g k = rw (le-ltb (8 * M + 7) (length g + 1) (omega arith))
-
 inside-bit : (M r : ℕ) (g : List Bool) (b : Bool) → eqb r 6 ≡ false → length g < 8 * M + 7
     → step_bit M (inside r g) b ≡ (inside (run_next r b) (g ++ kept_of r b), [])
 unfolding step_bit
@@ -56,22 +44,18 @@ plain-inside M r g [] p k = (ap (inside r) (sym (append-nil g)), refl)
 plain-inside M r g (b ∷ bs) p k =
     let t = plain-first r b bs p in
     let q = plain-inside M (run_next r b) (g ++ kept_of r b) bs t.1 (omega (arith, length-append g (kept_of r b), kept-few r b)) in
-    quiet-bit M (inside r g) (inside (run_next r b) (g ++ kept_of r b)) _ b bs (inside-bit M r g b t.0 (omega arith))
-    (subst (λ (x : List Bool). Quietly M (inside (run_next r b) (g ++ kept_of r b)) bs (inside (run_over (run_next r b) bs) x))
-    (append_assoc g (kept_of r b) (kept (run_next r b) bs)) q)
+    bit-then M (inside r g) (inside (run_next r b) (g ++ kept_of r b)) _ b bs [] [] (inside-bit M r g b t.0 (omega arith))
+    (q.0 ∙ ap (inside (run_over (run_next r b) bs)) (append_assoc g (kept_of r b) (kept (run_next r b) bs))) q.1
 
 -- ---- hunting
 hunted-bit : (M r : ℕ) (b : Bool) → eqb r 6 ≡ false → step_bit M (hunts r) b ≡ (hunts (run_next r b), [])
 unfolding step_bit
 hunted-bit M r true e = rw e
-hunted-bit M r false e = go (eqb r 5) refl
-  where
-    go : (x : Bool) → eqb r 5 ≡ x → step_bit M (hunts r) false ≡ (hunts 0, [])
-    go true f = rw f
-    go false f = rw (f, e)
+hunted-bit M r false e = hunted-zero M r e
 
 pub plain-hunting : PlainHunting
 plain-hunting M r [] p = (refl, refl)
 plain-hunting M r (b ∷ bs) p =
     let t = plain-first r b bs p in
-    quiet-bit M (hunts r) (hunts (run_next r b)) _ b bs (hunted-bit M r b t.0) (plain-hunting M (run_next r b) bs t.1)
+    let q = plain-hunting M (run_next r b) bs t.1 in
+    bit-then M (hunts r) (hunts (run_next r b)) _ b bs [] [] (hunted-bit M r b t.0) q.0 q.1

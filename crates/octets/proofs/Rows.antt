@@ -10,20 +10,16 @@ use lib.ListN.{length, get_or, length-append}
 use Rattle.bits.specs.Octets.{bits_of, octet_of}
 use Rattle.bits.proofs.Digits.{length-bits_of, octet_of-lt}
 use Rattle.bits.proofs.Machines.{run-append, outs-append}
-use Rattle.bits.proofs.Tests.{both_true}
-use Rattle.fcs.specs.Table.{table_from}
+use Rattle.std.proofs.lemmas.Bool.{and_from}
 use Rattle.fcs.proofs.Tables.{pair-at}
 use Rattle.octets.specs.Rows.{run_next, kept_of, run_over, kept, plain, row_of, row_table}
 use Rattle.octets.specs.Plain.{EachRow}
 use Rattle.octets.proofs.Plain.{kept-few}
 
 -- ---- a row's place
-table-rows : row_table ≡ table_from (λ i. row_of (i / 256) (i % 256)) 0 2048
-unfolding row_table
-table-rows = refl
-
 pub each_row : EachRow
-each_row r x h k = ap (λ (l : List ℕ). get_or l (r * 256 + x) 0) table-rows ∙ pair-at row_of 2048 r x k (omega arith)
+unfolding row_table
+each_row r x h k = pair-at row_of row_table 2048 r x refl k (omega arith)
 
 -- ---- bits in two parts
 pub plain-append : (r : ℕ) (xs ys : List Bool) → plain r (xs ++ ys) ≡ plain r xs && plain (run_over r xs) ys
@@ -33,7 +29,7 @@ plain-append r (b ∷ xs) ys =
     ap (λ (t : Bool). not (eqb r 6) && t) (plain-append (run_next r b) xs ys) ∙ sym (and_assoc (not (eqb r 6)) (plain (run_next r b) xs) (plain (run_over (run_next r b) xs) ys))
 
 pub plain-joined : (r : ℕ) (xs ys : List Bool) → plain r xs ≡ true → plain (run_over r xs) ys ≡ true → plain r (xs ++ ys) ≡ true
-plain-joined r xs ys p q = plain-append r xs ys ∙ both_true (plain r xs) (plain (run_over r xs) ys) p q
+plain-joined r xs ys p q = plain-append r xs ys ∙ and_from (plain r xs) (plain (run_over r xs) ys) p q
 
 pub kept_append : (r : ℕ) (xs ys : List Bool) → kept r (xs ++ ys) ≡ kept r xs ++ kept (run_over r xs) ys
 kept_append r xs ys = outs-append run_next kept_of xs ys r

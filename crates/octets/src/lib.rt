@@ -97,6 +97,7 @@ fn hunt_octets(octets: &[u8], run: u8) -> Scan
     }
 }
 
+// M is a setting, and the area lies in the link that a host holds: their bounds are each function's `requires`.
 // Octets by their rows, up to the first in which a flag or an abort ends or that might make the unit long.
 pub fn plain_octets(m: u16, line: Line, octets: &[u8], area: &mut [u8; 279]) -> Scan
     requires m_bound { m ≤ 278 }

@@ -15,14 +15,15 @@ use Rattle.bits.specs.Octets.{bits_of, line_bits}
 use Rattle.sending.specs.declared.Tx.{Tx}
 use Rattle.sending.specs.Stuffing.{flag, unit_line}
 use Rattle.sending.specs.Packing.{octets_out}
-use Rattle.sending.specs.InnerPutting.{after_bits, area_put, Puts, TxInRange, Room}
-use Rattle.sending.proofs.Puttings.{ready-after, place_after, puts-append, written-append}
+use Rattle.sending.specs.Sender.{TxInRange}
+use Rattle.sending.specs.InnerPutting.{after_bits, area_put, Puts, Room}
+use Rattle.sending.proofs.Puttings.{place_after, puts-append, written-append}
 use Rattle.sending.proofs.Stuffs.{unit-length}
 use Rattle.board.specs.declared.Transmitter.{Transmitter}
 use Rattle.board.specs.declared.Link.{Link}
 use Rattle.board.specs.Malformed.{zero_past, no_ones}
 use Rattle.board.proofs.Ranges.{well-formed}
-use Rattle.bits.proofs.Tests.{neither}
+use Rattle.std.proofs.lemmas.Bool.{or_parts}
 use Rattle.board.specs.InnerRanges.{WellFormed}
 use Rattle.board.proofs.Past.{part-above}
 use Rattle.std.specs.Prelude.{Ok}
@@ -53,7 +54,7 @@ sendable l content output e =
     let n2 = none _ _ _ (λ z. omega arith) n1.1 in
     let n9 = none _ _ _ (λ z. omega arith) n2.1 in
     let n10 = none _ _ _ (λ z. omega arith) n9.1 in
-    let sizes = neither (ltb (length content) 3) (ltb 276 (length content)) n10.0 in (
+    let sizes = or_parts (ltb (length content) 3) (ltb 276 (length content)) n10.0 in (
       record { formed = well-formed l (not-false _ n2.0) n1.0; room = ltb-false (length output) 336 n9.0 },
       ltb-false (length content) 3 sizes.0,
       ltb-false 276 (length content) sizes.1,
@@ -96,47 +97,45 @@ pub flag-room : (l : Link) (output : List ℕ) → ReadyToPut l output → Room 
 flag-room l output r = omega (arith, r.room, r.formed.waiting)
 
 -- ---- a unit with or without a flag before it
-module _ (t : Transmitter) (content output : List ℕ) where
+module _ (s : Tx) (t : Transmitter) (content output : List ℕ) where
   module _ (e : t.flagged ≡ true) where
     flagged-bits : unit_out t content ≡ unit_line content
     unfolding unit_out
     flagged-bits = ap (λ (b : Bool). first_flag b ++ unit_line content) e
 
-    pub flagged-room : Room (sender t) (unit_out t content) output → Room (sender t) (unit_line content) output
-    flagged-room r = subst (λ (bs : List Bool). Room (sender t) bs output) flagged-bits r
+    pub flagged-room : Room s (unit_out t content) output → Room s (unit_line content) output
+    flagged-room r = subst (λ (bs : List Bool). Room s bs output) flagged-bits r
 
-    pub flagged-puts : (r : Tx) (out' : List ℕ) → Puts output (sender t) (unit_line content) 0 r out' → Puts output (sender t) (unit_out t content) 0 r out'
-    flagged-puts r out' p = subst (λ (bs : List Bool). Puts output (sender t) bs 0 r out') (sym flagged-bits) p
+    pub flagged-puts : (r : Tx) (out' : List ℕ) → Puts output s (unit_line content) 0 r out' → Puts output s (unit_out t content) 0 r out'
+    flagged-puts r out' p = subst (λ (bs : List Bool). Puts output s bs 0 r out') (sym flagged-bits) p
 
   module _ (e : t.flagged ≡ false) where
     first-bits : unit_out t content ≡ flag ++ unit_line content
     unfolding unit_out
     first-bits = ap (λ (b : Bool). first_flag b ++ unit_line content) e
 
-    pub first-room : Room (sender t) (unit_out t content) output → Room (sender t) flag output
-    first-room r = omega (arith, subst (λ (bs : List Bool). Room (sender t) bs output) first-bits r, length-append flag (unit_line content))
+    pub first-room : Room s (unit_out t content) output → Room s flag output
+    first-room r = omega (arith, subst (λ (bs : List Bool). Room s bs output) first-bits r, length-append flag (unit_line content))
 
     -- behind the flag
-    module _ (room : Room (sender t) (unit_out t content) output) (f : Tx) (out₁ : List ℕ) (p : Puts output (sender t) flag 0 f out₁) where
+    module _ (room : Room s (unit_out t content) output) (f : Tx) (out₁ : List ℕ) (p : Puts output s flag 0 f out₁) where
       same : length out₁ ≡ length output
-      same = ap length p.area ∙ length-sets output 0 (octets_out (sender t) flag)
+      same = ap length p.area ∙ length-sets output s.at (octets_out s flag)
 
-      pub then_ready : TxInRange f × Room f (unit_line content) out₁
-      then_ready = (
-        subst TxInRange (sym p.tx) (ready-after (sender t) flag 0 (omega arith)),
-        subst (λ (x : Tx). Room x (unit_line content) out₁) (sym p.tx)
-            (omega (arith, same, place_after (sender t) flag 0, length-append flag (unit_line content), subst (λ (bs : List Bool). Room (sender t) bs output) first-bits room)),
-      )
+      pub then-room : Room f (unit_line content) out₁
+      then-room =
+          subst (λ (x : Tx). Room x (unit_line content) out₁) (sym p.tx)
+          (omega (arith, same, place_after s flag 0, length-append flag (unit_line content), subst (λ (bs : List Bool). Room s bs output) first-bits room))
 
-      pub then-puts : (r : Tx) (out₂ : List ℕ) → Puts out₁ f (unit_line content) 0 r out₂ → Puts output (sender t) (unit_out t content) 0 r out₂
+      pub then-puts : (r : Tx) (out₂ : List ℕ) → Puts out₁ f (unit_line content) 0 r out₂ → Puts output s (unit_out t content) 0 r out₂
       then-puts r out₂ q =
           record {
             tx =
-                q.tx ∙ ap (λ (x : Tx). after_bits x (unit_line content) 0) p.tx ∙ puts-append (sender t) flag (unit_line content) 0 0
-                ∙ ap (λ (bs : List Bool). after_bits (sender t) bs 0) (sym first-bits);
+                q.tx ∙ ap (λ (x : Tx). after_bits x (unit_line content) 0) p.tx ∙ puts-append s flag (unit_line content) 0 0
+                ∙ ap (λ (bs : List Bool). after_bits s bs 0) (sym first-bits);
             area =
                 q.area ∙ ap₂ (λ (o : List ℕ) (x : Tx). area_put o x (unit_line content)) p.area p.tx
-                ∙ written-append output (sender t) flag (unit_line content) 0 ∙ ap (area_put output (sender t)) (sym first-bits);
+                ∙ written-append output s flag (unit_line content) 0 ∙ ap (area_put output s) (sym first-bits);
           }
 
 -- ---- the answers
@@ -152,7 +151,7 @@ fill-content (a ∷ b ∷ []) h = refl
 fill-content (a ∷ b ∷ c ∷ cs) h = absurd (omega arith)
 
 -- ---- a fill: a flag before any content, then the unit of the last content
-module _ (t : Transmitter) (output : List ℕ) where
+module _ (s : Tx) (t : Transmitter) (output : List ℕ) where
   fill-flag : t.sent ≡ false → fill_out t ≡ flag
   unfolding fill_out
   fill-flag e = rw e
@@ -161,11 +160,11 @@ module _ (t : Transmitter) (output : List ℕ) where
   unfolding fill_out
   fill-unit e = rw e
 
-  pub fill-flag-room : t.sent ≡ false → Room (sender t) (fill_out t) output → Room (sender t) flag output
-  fill-flag-room e r = subst (λ (bs : List Bool). Room (sender t) bs output) (fill-flag e) r
+  pub fill-flag-room : t.sent ≡ false → Room s (fill_out t) output → Room s flag output
+  fill-flag-room e r = subst (λ (bs : List Bool). Room s bs output) (fill-flag e) r
 
-  pub fill-flag-puts : t.sent ≡ false → (r : Tx) (out' : List ℕ) → Puts output (sender t) flag 0 r out' → Puts output (sender t) (fill_out t) 0 r out'
-  fill-flag-puts e r out' p = subst (λ (bs : List Bool). Puts output (sender t) bs 0 r out') (sym (fill-flag e)) p
+  pub fill-flag-puts : t.sent ≡ false → (r : Tx) (out' : List ℕ) → Puts output s flag 0 r out' → Puts output s (fill_out t) 0 r out'
+  fill-flag-puts e r out' p = subst (λ (bs : List Bool). Puts output s bs 0 r out') (sym (fill-flag e)) p
 
   module _ (e : t.sent ≡ true) (h : length t.last ≡ 2) where
     abbrev content : List ℕ
@@ -174,21 +173,21 @@ module _ (t : Transmitter) (output : List ℕ) where
     unit-is : fill_out t ≡ unit_out t content
     unit-is = fill-unit e ∙ ap (unit_out t) (sym (fill-content t.last h))
 
-    pub fill-unit-room : Room (sender t) (fill_out t) output → Room (sender t) (unit_out t content) output
-    fill-unit-room r = subst (λ (bs : List Bool). Room (sender t) bs output) unit-is r
+    pub fill-unit-room : Room s (fill_out t) output → Room s (unit_out t content) output
+    fill-unit-room r = subst (λ (bs : List Bool). Room s bs output) unit-is r
 
-    pub fill-unit-puts : (r : Tx) (out' : List ℕ) → Puts output (sender t) (unit_out t content) 0 r out' → Puts output (sender t) (fill_out t) 0 r out'
-    fill-unit-puts r out' p = subst (λ (bs : List Bool). Puts output (sender t) bs 0 r out') (sym unit-is) p
+    pub fill-unit-puts : (r : Tx) (out' : List ℕ) → Puts output s (unit_out t content) 0 r out' → Puts output s (fill_out t) 0 r out'
+    fill-unit-puts r out' p = subst (λ (bs : List Bool). Puts output s bs 0 r out') (sym unit-is) p
 
 pub fill-room : (l : Link) (output : List ℕ) → ReadyToPut l output → length l.transmitter.last ≡ 2
     → Room (sender l.transmitter) (fill_out l.transmitter) output
 fill-room l output r h = go l.transmitter.sent refl
   where
     go : (b : Bool) → l.transmitter.sent ≡ b → Room (sender l.transmitter) (fill_out l.transmitter) output
-    go false e = subst (λ (bs : List Bool). Room (sender l.transmitter) bs output) (sym (fill-flag l.transmitter output e)) (flag-room l output r)
+    go false e = subst (λ (bs : List Bool). Room (sender l.transmitter) bs output) (sym (fill-flag (sender l.transmitter) l.transmitter output e)) (flag-room l output r)
     go true e =
-        subst (λ (bs : List Bool). Room (sender l.transmitter) bs output) (sym (unit-is l.transmitter output e h))
-        (unit-room l (content l.transmitter output e h) output r (omega arith))
+        subst (λ (bs : List Bool). Room (sender l.transmitter) bs output) (sym (unit-is (sender l.transmitter) l.transmitter output e h))
+        (unit-room l (content (sender l.transmitter) l.transmitter output e h) output r (omega arith))
 
 -- ---- the answers
 put-done : (l : Link) (bits : List Bool) (sent : Bool) (last : List ℕ) (event : ℕ) (output out' : List ℕ) (s : Tx) → Puts output (sender l.transmitter) bits 0 s out'

@@ -1,5 +1,5 @@
 -- What send and fill put behind the bits that wait, and what they answer.
-use Rattle.std.specs.Prelude.{ℕ, Bool, true, false, cond, List, [], ◌++◌, eqb, length, take, replicate, Result, Ok, Err}
+use Rattle.std.specs.Prelude.{ℕ, Bool, true, false, cond, List, [], ◌++◌, eqb, length, take, replicate, Result}
 use Rattle.std.specs.Int.Bits.{bit_or}
 use Rattle.std.proofs.lemmas.List.Edits.{sets}
 use Rattle.board.specs.declared.events.Event.TheVariants as events
@@ -13,7 +13,7 @@ use Rattle.board.specs.declared.Transmitter.{Transmitter}
 use Rattle.board.specs.declared.Link.{Link}
 use Rattle.board.specs.With.{with_sender}
 use Rattle.link.specs.declared.Refusal.{Refusal}
-use Rattle.link.specs.Answer.{refusal_number}
+use Rattle.link.specs.Answer.{number_of, counted_link, count_of}
 use Rattle.link.specs.declared.Counted.{Counted}
 use Rattle.output.specs.Refusals.{send_number, fill_number}
 
@@ -70,8 +70,7 @@ not_sent n l output = record { number = n; link = l; count = 0; output = output 
 
 -- what the code gives on link l, and the output area as it stands then
 abbrev pub output_of : Link → Result Counted Refusal → List ℕ → OutputOutcome
-output_of l (Ok sent) output = record { number = 0; link = sent.link; count = sent.count; output = output }
-output_of l (Err refusal) output = record { number = refusal_number refusal; link = l; count = 0; output = output }
+output_of l r output = record { number = number_of r; link = counted_link l r; count = count_of r; output = output }
 
 -- "7 sent"
 unfoldable pub send_answer : Link → List ℕ → List ℕ → OutputOutcome

@@ -4,7 +4,8 @@
 
 ghost use Rattle.std.specs.Prelude.{◌≡◌};
 ghost use Rattle.link.specs.Answer.{number_of};
-ghost use Rattle.sending.specs.InnerPutting.{Puts, TxInRange, Room};
+ghost use Rattle.sending.specs.Sender.{TxInRange};
+ghost use Rattle.sending.specs.InnerPutting.{Puts, Room};
 ghost use Rattle.output.specs.Refusals.{send_number, fill_number};
 ghost use Rattle.output.specs.Output.{sender, unit_out, fill_out, fill_event, link_sent, output_of, send_answer, fill_answer};
 
@@ -36,8 +37,9 @@ fn check_content(link: &Link, content: &[u8], output: &[u8]) -> Result<(), Refus
     Ok(())
 }
 
-// The sender at the start of an output area, with the bits that wait.
+// The sender at the start of an output area, with the bits that wait. Neither type is this crate's, so that no From can stand here.
 fn sender_of(t: Transmitter) -> Tx
+    requires { TxInRange (sender t) }
     ensures { result ≡ sender t }
 {
     Tx {
@@ -49,11 +51,10 @@ fn sender_of(t: Transmitter) -> Tx
 }
 
 // A unit behind what waits. The first output of a booking begins with a flag; later the flag before it opens the unit.
-fn put_out(output: &mut [u8], t: Transmitter, content: &[u8]) -> Tx
-    requires { TxInRange (sender t) × Room (sender t) (unit_out t content.now) output.old }
-    ensures { Puts output.old (sender t) (unit_out t content.now) 0 result output.new }
+fn put_out(output: &mut [u8], s: Tx, t: Transmitter, content: &[u8]) -> Tx
+    requires { Room s (unit_out t content.now) output.old }
+    ensures { Puts output.old s (unit_out t content.now) 0 result output.new }
 {
-    let s = sender_of(t);
     if t.flagged {
         return sending::put_unit(output, s, content);
     }
@@ -62,17 +63,16 @@ fn put_out(output: &mut [u8], t: Transmitter, content: &[u8]) -> Tx
 }
 
 // The fill-in unit of the last content behind what waits; before any content, a flag.
-fn put_fill(output: &mut [u8], t: Transmitter) -> Tx
-    requires { TxInRange (sender t) × Room (sender t) (fill_out t) output.old }
-    ensures { Puts output.old (sender t) (fill_out t) 0 result output.new }
+fn put_fill(output: &mut [u8], s: Tx, t: Transmitter) -> Tx
+    requires { Room s (fill_out t) output.old }
+    ensures { Puts output.old s (fill_out t) 0 result output.new }
 {
     if !t.sent {
-        let s = sender_of(t);
         return sending::put_flag(output, s);
     }
     let last = t.last;
     let content = [last[0], last[1], 0];
-    put_out(output, t, &content)
+    put_out(output, s, t, &content)
 }
 
 // The event bit of a fill: none for a flag alone.
@@ -113,7 +113,8 @@ pub fn send(link: Link, content: &[u8], output: &mut [u8]) -> Result<Counted, Re
     ensures { output_of link result output.new ≡ send_answer link content.now output.old }
 {
     check_content(&link, content, output)?;
-    let s = put_out(output, link.transmitter, content);
+    let t = link.transmitter;
+    let s = put_out(output, sender_of(t), t, content);
     let last = [content[0], content[1]];
     Ok(after_output(link, s, true, last, Link::EVENT_SENT))
 }
@@ -125,6 +126,6 @@ pub fn fill(link: Link, output: &mut [u8]) -> Result<Counted, Refusal>
 {
     check_output(&link, output)?;
     let t = link.transmitter;
-    let s = put_fill(output, t);
+    let s = put_fill(output, sender_of(t), t);
     Ok(after_output(link, s, t.sent, t.last, fill_event(t.sent)))
 }

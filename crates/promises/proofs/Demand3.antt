@@ -27,8 +27,9 @@ use Rattle.output.specs.Output.{fill_event}
 use Rattle.board.specs.Events.{event_bit}
 use Rattle.board.specs.declared.Settings.{Settings}
 use Rattle.promises.proofs.EventBits.{bit-or, bit-without}
-use Rattle.promises.proofs.Setting.{or-none, plain-happenings, bit-after}
+use Rattle.promises.proofs.Setting.{plain-happenings, bit-after}
 use Rattle.input.specs.Refusals.{receive_number}
+use Rattle.std.proofs.Math.Bool.{or-false}
 use Rattle.std.proofs.lemmas.Bool.{and_parts, and_from, false_from_ne_true, not_from_false}
 use Rattle.monitor.specs.declared.Limits.{Limits}
 use Rattle.monitor.specs.ErrorMonitors.{ErrorMonitor, suerm, aerm, threshold_of, rule_of}
@@ -182,7 +183,7 @@ module _ (x : ErrorMonitor) (l : Link) (p : Past) (h : Holds l p) where
 
   sent-same : (event : ℕ) → bit_set (bit_of x) event ≡ false
       → bit_set (bit_of x) (bit_or l.supervision.events event) ≡ bit_set (bit_of x) l.supervision.events
-  sent-same event e = bit-or (bit_of x) l.supervision.events event ∙ or-none _ _ e
+  sent-same event e = rw (bit-or (bit_of x) l.supervision.events event, e) (or-false _)
 
   done-bit : (c : Call) → first (faults l c) ≡ 0 → After x p.history (action_done (front_of l) c) l (answer l c).link
   done-bit (opens s pool descriptors) n =

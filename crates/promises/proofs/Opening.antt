@@ -1,12 +1,11 @@
 -- A booking with settings in range opens on wiped memory of its slots.
 use Prim.Native.Nat.{ℕ, ◌*◌}
-use mathlib.Core.Path.{◌≡◌, sym, ap, ◌∙◌}
+use mathlib.Core.Path.{◌≡◌, ◌∙◌}
 use mathlib.Core.Bool.{true}
 use mathlib.Core.List.{[], ◌∷◌}
-use lib.ListN.{replicate, length-replicate}
+use lib.ListN.{length-replicate}
 use Rattle.bits.specs.Format.{basic}
-use Rattle.memory.specs.Lent.{zeros}
-use Rattle.memory.proofs.Slots.{zeros-exact}
+use Rattle.memory.proofs.Slots.{zeros-replicate}
 use Rattle.board.specs.declared.Settings.{Settings}
 use Rattle.board.specs.Link.{new_link}
 use Rattle.board.specs.Malformed.{in_range}
@@ -17,9 +16,6 @@ use Rattle.calls.specs.Call.{answer, link_after, faults}
 use Rattle.calls.specs.Lending.{opening}
 use Rattle.promises.proofs.Answering.{number_is, link-done}
 use Rattle.promises.proofs.Holding.{holds-new}
-
-zeros-replicate : (n : ℕ) → zeros (replicate n 0) ≡ true
-zeros-replicate n = (zeros-exact (replicate n 0)).1 (ap (λ (m : ℕ). replicate m 0) (sym (length-replicate {A = ℕ} n 0)))
 
 module _ (s : Settings) (range : in_range basic s ≡ true) where
   pub no-fault : first (faults new_link (opening s)) ≡ 0

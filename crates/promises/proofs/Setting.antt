@@ -8,14 +8,10 @@ use lib.Bits.{bit_or}
 use lib.Dec.{eqb}
 use Rattle.std.specs.Prelude.{Option, Some, None}
 use Rattle.std.proofs.lemmas.Option.{none-some}
+use Rattle.std.proofs.Math.Bool.{or-false}
 use Rattle.std.proofs.lemmas.Bool.{or_cases, or_left, or_right}
 use Rattle.bits.specs.Octets.{whole_octets}
-use Rattle.bits.specs.Format.{basic}
 use Rattle.framing.specs.Delimitation.{closed, abort, long}
-use Rattle.framing.specs.Verdict.{verdict_of}
-use Rattle.filter.specs.Memory.{settled}
-use Rattle.memory.specs.declared.Status.{Status}
-use Rattle.memory.specs.declared.Status.TheVariants as statuses
 use Rattle.monitor.specs.declared.Alarm.{Alarm}
 use Rattle.monitor.specs.declared.Alarm.TheVariants.{Suer, Aerm}
 use Rattle.monitor.specs.declared.Limits.{Limits}
@@ -24,16 +20,14 @@ use Rattle.monitor.specs.ErrorMonitors.{ErrorMonitor, suerm, aerm, alarm_of}
 use Rattle.board.specs.declared.Settings.{Settings}
 use Rattle.board.specs.declared.Supervision.{Supervision}
 use Rattle.board.specs.declared.events.Event.TheVariants.{Suer as suer-bit, Aerm as aerm-bit}
-use Rattle.records.specs.declared.RecordKind.{RecordKind}
-use Rattle.records.specs.declared.RecordKind.TheVariants as kinds
 use Rattle.records.specs.declared.Happening.{Happening}
 use Rattle.records.specs.declared.Noted.{Noted}
 use Rattle.records.specs.Happening.{alarm_bit}
 use Rattle.records.specs.Record.{supervised, supervision_after}
 use Rattle.records.proofs.Noting.{noted-event, noted-none}
 use Rattle.units.specs.Indications.{Indication, found, octet_end}
-use Rattle.units.specs.Units.{UnitMemory, Effect, is_free, good_unit, errored_unit, closed_unit, ticks, tick_of, octet_effect, effect_of, happens, happenings, next_unit_memory}
-use Rattle.units.proofs.UnitStates.{each-fate, each-cond, each-verdict}
+use Rattle.units.specs.Units.{UnitMemory, Effect, octet_effect, effect_of, happens, happenings, next_unit_memory}
+use Rattle.units.proofs.UnitStates.{each-tick, each-closed, each-errored, each-good}
 use Rattle.promises.specs.Demand3.{bit_set, bit_of}
 use Rattle.promises.proofs.EventBits.{bit-or}
 use Rattle.promises.proofs.Alarming.{alarm_at}
@@ -61,28 +55,15 @@ PlainEffect x = AllPlain x.happenings
 abbrev one_plain : {h : Happening} → bit_set suer-bit h.bits ≡ false → bit_set aerm-bit h.bits ≡ false → AllPlain (h ∷ [])
 one_plain p q = more (record { suer = p; aerm = q }) none
 
-plain-good : (s : Settings) (o : UnitMemory) (os : List ℕ) → PlainEffect (good_unit s o os)
-unfolding good_unit
-plain-good s o os =
-    each-fate PlainEffect (settled basic s.filter s.mask o.units.memory os (is_free o)).fate (one_plain refl refl) (one_plain refl refl) (one_plain refl refl)
-
-plain-errored : (s : Settings) (o : UnitMemory) (status : Status) (kind : RecordKind) (os : List ℕ) → PlainEffect (errored_unit s o status kind os)
-unfolding errored_unit
-plain-errored s o status kind os = each-cond PlainEffect (is_free o) (one_plain refl refl) (one_plain refl refl)
-
-plain-tick : (a b : Bool) (good : ℕ) → AllPlain (ticks a b (tick_of good))
-plain-tick true true good = one_plain refl refl
-plain-tick true false good = none
-plain-tick false b good = none
-
 plain-happens : (s : Settings) (o : UnitMemory) (m : Indication) → AllPlain (happens s o m)
-unfolding effect_of closed_unit octet_effect
+unfolding effect_of octet_effect
 plain-happens s o (found (closed u)) =
-    each-verdict PlainEffect (verdict_of basic u) (one_plain refl refl) (plain-errored s o statuses.NotWhole kinds.NotWhole (whole_octets u))
-    (plain-errored s o statuses.CheckWrong kinds.CheckWrong (whole_octets u)) (plain-good s o (whole_octets u))
+    let os = whole_octets u in
+    each-closed PlainEffect s o u (one_plain refl refl) (λ status kind. each-errored PlainEffect s o os status kind (one_plain refl refl) (one_plain refl refl))
+    (each-good PlainEffect s o os (λ m. one_plain refl refl) (λ m. one_plain refl refl) (λ m. one_plain refl refl))
 plain-happens s o (found abort) = one_plain refl refl
 plain-happens s o (found long) = one_plain refl refl
-plain-happens s o octet_end = plain-tick (eqb o.units.counting.left 1) o.units.counting.on o.units.counts.good
+plain-happens s o octet_end = each-tick AllPlain (eqb o.units.counting.left 1) o.units.counting.on (one_plain refl refl) none
 
 pub plain-happenings : (s : Settings) (ms : List Indication) (o : UnitMemory) → AllPlain (happenings s o ms)
 unfolding happenings
@@ -118,10 +99,6 @@ rings-own : (x : ErrorMonitor) → rings x (Some (alarm_of x)) ≡ true
 rings-own suerm = refl
 rings-own aerm = refl
 
-pub or-none : (a b : Bool) → b ≡ false → a || b ≡ a
-or-none true b e = refl
-or-none false b e = e
-
 module _ (x : ErrorMonitor) (l : Limits) where
   abbrev bit : Supervision → Bool
   bit w = bit_set (bit_of x) w.events
@@ -130,7 +107,7 @@ module _ (x : ErrorMonitor) (l : Limits) where
   one_bit w h p = go h.event refl
     where
       own : bit_set (bit_of x) (bit_or w.events h.bits) ≡ bit w
-      own = bit-or (bit_of x) w.events h.bits ∙ or-none _ _ (plain-bit x h.bits p)
+      own = rw (bit-or (bit_of x) w.events h.bits, plain-bit x h.bits p) (or-false (bit w))
 
       go : (b : Bool) → h.event ≡ b → bit (supervised l w h) ≡ bit w || rings x (cond b (step l w.monitor h.errored).alarm None)
       go true e =
@@ -139,7 +116,7 @@ module _ (x : ErrorMonitor) (l : Limits) where
           ∙ bit-or (bit_of x) (bit_or w.events h.bits) (alarm_bit a)
           ∙ ap (λ (b : Bool). b || bit_set (bit_of x) (alarm_bit a)) own ∙ ap (λ (b : Bool). bit w || b) (rings-bit x a)
       go false e =
-          ap (λ (n : Noted). bit n.supervision) (noted-none l w h e) ∙ own ∙ sym (or-none (bit w) (rings x None) (silent x))
+          ap (λ (n : Noted). bit n.supervision) (noted-none l w h e) ∙ own ∙ sym (rw (silent x) (or-false (bit w)))
         where
           silent : (y : ErrorMonitor) → rings y None ≡ false
           silent suerm = refl

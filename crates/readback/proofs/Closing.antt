@@ -2,7 +2,7 @@
 use Prim.Native.Nat.{ℕ, ◌+◌, ◌≤◌}
 use mathlib.Core.Path.{◌≡◌, sym, ap, ap₂, ◌∙◌}
 use mathlib.Core.Bool.{Bool, false}
-use mathlib.Core.List.{List, [], ◌∷◌, ◌++◌, append_assoc, append-nil}
+use mathlib.Core.List.{List, [], ◌∷◌, ◌++◌, append_assoc, append-nil, append-eq-nil_iff}
 use native.Mathlib.Omega.{arith}
 use lib.ListN.{length, length-append}
 use Rattle.bits.specs.Octets.{bits_of, line_bits}
@@ -15,7 +15,7 @@ use Rattle.sending.proofs.Stuffs.{unit-bits}
 use Rattle.sending.proofs.ReadBack.{ClosesLast, closes-last}
 use Rattle.units.specs.Indications.{line_receiver}
 use Rattle.reception.proofs.Lines.{by_bits}
-use Rattle.readback.proofs.Lists.{Seam, seam, both-nil}
+use Rattle.readback.proofs.Lists.{Seam, seam}
 
 -- ---- the last octet
 -- nothing is found in `quiet`, of which the octet holds the end q₂, and the bit after it closes u
@@ -24,7 +24,7 @@ close-found : (M : ℕ) (u quiet q₁ q₂ behind : List Bool) → quiet ≡ q�
     → findings M (receiver_after M flagged q₁) (q₂ ++ (false ∷ behind)) ≡ closed u ∷ findings M flagged behind
 close-found M u quiet q₁ q₂ behind e none last =
     let none₂ : findings M (receiver_after M flagged q₁) q₂ ≡ [] =
-    (both-nil (findings M flagged q₁) (findings M (receiver_after M flagged q₁) q₂)
+    (append-eq-nil_iff.0
     (sym (outs-append (next M) (finds M) q₁ q₂ flagged) ∙ ap (findings M flagged) (sym e) ∙ none)).1 in
     let there : receiver_after M (receiver_after M flagged q₁) q₂ ≡ receiver_after M flagged quiet =
     sym (run-append (next M) q₁ q₂ flagged) ∙ ap (receiver_after M flagged) (sym e) in

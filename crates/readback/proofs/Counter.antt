@@ -5,20 +5,13 @@ use mathlib.Core.Bool.{Bool, cond}
 use mathlib.Core.List.{List, [], ◌∷◌}
 use native.Mathlib.Omega.{arith}
 use lib.Dec.{eqb}
-use Rattle.records.specs.declared.RecordKind.{RecordKind}
-use Rattle.memory.specs.declared.Status.{Status}
-use Rattle.records.specs.declared.RecordKind.TheVariants as kinds
-use Rattle.memory.specs.declared.Status.TheVariants as statuses
 use Rattle.bits.specs.Octets.{whole_octets}
-use Rattle.bits.specs.Format.{basic}
 use Rattle.framing.specs.Delimitation.{closed, abort, long}
-use Rattle.framing.specs.Verdict.{verdict_of}
-use Rattle.filter.specs.Memory.{settled}
 use Rattle.board.specs.declared.Settings.{Settings}
 use Rattle.std.proofs.lemmas.Bool.Decides.{nat_tests}
 use Rattle.units.specs.Indications.{Indication, found, octet_end}
-use Rattle.units.specs.Units.{UnitMemory, Effect, is_free, good_unit, errored_unit, closed_unit, octet_effect, effect_of, next_unit_memory, unit_memory_after}
-use Rattle.units.proofs.UnitStates.{each-fate, each-cond, each-verdict}
+use Rattle.units.specs.Units.{UnitMemory, Effect, closed_unit, octet_effect, effect_of, next_unit_memory, unit_memory_after}
+use Rattle.units.proofs.UnitStates.{each-closed, each-errored, each-good}
 
 -- ---- N's counter: only the end of an octet moves it
 abbrev left : UnitMemory → ℕ
@@ -28,19 +21,11 @@ abbrev Left : ℕ → Effect → Type 0
 Left n x = left x.unit_memory ≡ n
 
 module _ (s : Settings) (o : UnitMemory) where
-  left-good : (os : List ℕ) → Left (left o) (good_unit s o os)
-  unfolding good_unit
-  left-good os = each-fate (Left (left o)) (settled basic s.filter s.mask o.units.memory os (is_free o)).fate refl refl refl
-
-  left-errored : (status : Status) (kind : RecordKind) (os : List ℕ) → Left (left o) (errored_unit s o status kind os)
-  unfolding errored_unit
-  left-errored status kind os = each-cond (Left (left o)) (is_free o) refl refl
-
   left-closed : (u : List Bool) → Left (left o) (closed_unit s o u)
-  unfolding closed_unit
   left-closed u =
       let os = whole_octets u in
-      each-verdict (Left (left o)) (verdict_of basic u) refl (left-errored statuses.NotWhole kinds.NotWhole os) (left-errored statuses.CheckWrong kinds.CheckWrong os) (left-good os)
+      each-closed (Left (left o)) s o u refl (λ status kind. each-errored (Left (left o)) s o os status kind refl refl)
+      (each-good (Left (left o)) s o os (λ m. refl) (λ m. refl) (λ m. refl))
 
   -- it reloads to N, or is one less
   left_end : left o ≤ s.n → cond (eqb (left o) 1) s.n (left o - 1) ≤ s.n

@@ -23,10 +23,6 @@ module _ {A : Type 0} where
         rest = sym (drop-append-le n xs ys h) ∙ ap (drop n) e ∙ drop_at front back n refl;
       }
 
-  pub both-nil : (xs ys : List A) → xs ++ ys ≡ [] → (xs ≡ []) × (ys ≡ [])
-  both-nil [] ys e = (refl, e)
-  both-nil (x ∷ xs) ys e = cc
-
 -- what is made of each element in turn, of lists one after the other
 pub made-append : {A B : Type 0} (f : A → List B) (F : List A → List B) → F [] ≡ [] → ((x : A) (xs : List A) → F (x ∷ xs) ≡ f x ++ F xs)
     → (xs ys : List A) → F (xs ++ ys) ≡ F xs ++ F ys

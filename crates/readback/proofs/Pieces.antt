@@ -1,19 +1,19 @@
 -- What a fresh receiver finds in a transmitter's line of which some bits are still waiting: the units whose closing flag is out.
-use Prim.Native.Nat.{ℕ, zero, suc, ◌+◌, ◌*◌, ◌≤◌, min}
+use Prim.Native.Nat.{ℕ, zero, suc, ◌+◌, ◌≤◌}
 use mathlib.Core.Path.{◌≡◌, refl, sym, ap, ap₂, ◌∙◌}
 use mathlib.Core.Bool.{Bool, true, false}
-use mathlib.Core.List.{List, [], ◌∷◌, ◌++◌, map, append-nil}
+use mathlib.Core.List.{List, [], ◌∷◌, ◌++◌, map, append-nil, append-eq-nil_iff}
 use native.Mathlib.Omega.{arith}
-use borrow.Author.Tests.{le-ltb, ne_eqb}
 use lib.ListN.{length, replicate, length-append, length-replicate}
 use Rattle.bits.proofs.Machines.{run-append, outs-append}
 use Rattle.framing.specs.Delimitation.{Receiver, Finding, closed, new_receiver, flagged, inside, step_bit, next, finds, receiver_after, findings}
+use Rattle.framing.proofs.Steps.{bit-then, one-read, zero-read}
 use Rattle.sending.specs.Stuffing.{stuffed, flag, unit_bits, unit_line}
 use Rattle.sending.specs.Stream.{flags, units_line, stream_line}
 use Rattle.sending.proofs.ReadBack.{closes-last}
 use Rattle.sending.proofs.Stuffs.{unit-bits}
 use Rattle.sending.proofs.Sent.{read-back-unit}
-use Rattle.readback.proofs.Lists.{Seam, seam, both-nil}
+use Rattle.readback.proofs.Lists.{Seam, seam}
 use Rattle.readback.specs.Streams.{Allowed, AllAllowed, none, more, all_but_last, closed_out}
 
 -- ---- a list cut in two places: the second part is not longer than the other's
@@ -31,7 +31,7 @@ module _ (M : ℕ) (s t : Receiver) (xs ys : List Bool) (e : receiver_after M s 
 -- nothing is found in the front of what nothing is found in
 front-nothing : (M : ℕ) (s : Receiver) (xs ys : List Bool) → findings M s (xs ++ ys) ≡ [] → findings M s xs ≡ []
 front-nothing M s xs ys e =
-    (both-nil (findings M s xs) (findings M (receiver_after M s xs) ys) (sym (outs-append (next M) (finds M) xs ys s) ∙ e)).0
+    (append-eq-nil_iff.0 (sym (outs-append (next M) (finds M) xs ys s) ∙ e)).0
 
 -- ---- flags
 pub record Idles (M : ℕ) (s : Receiver) (bs : List Bool) : Type 0 where
@@ -45,21 +45,7 @@ new-flag M = record { state = refl; nothing = refl }
 -- a bit that is read and finds nothing
 reads : (M : ℕ) (s s' : Receiver) (b : Bool) (bs : List Bool) → step_bit M s b ≡ (s', []) → Idles M s' bs → Idles M s (b ∷ bs)
 reads M s s' b bs e p =
-    record {
-      state = ap (λ (st : Receiver × List Finding). receiver_after M st.0 bs) e ∙ p.state;
-      nothing = ap (λ (st : Receiver × List Finding). st.1 ++ findings M st.0 bs) e ∙ p.nothing;
-    }
-
--- a flag's ones, from the n-th on, are gathered and never too many
-one-gathered : (M n : ℕ) (g : List Bool) → n ≤ 5 → length g ≤ 6 → step_bit M (inside n g) true ≡ (inside (n + 1) (g ++ (true ∷ [])), [])
-unfolding step_bit
-one-gathered M n g h k =
-    let m : min (n + 1) 7 ≡ n + 1 = omega arith in
-    rw (ne_eqb n 6 (omega arith), m, le-ltb (8 * M + 7) (length g + 1) (omega arith))
-
-zero-gathered : (M : ℕ) → step_bit M flagged false ≡ (inside 0 (false ∷ []), [])
-unfolding step_bit
-zero-gathered M = rw (le-ltb (8 * M + 7) 1 (omega arith))
+    let q = bit-then M s s' flagged b bs [] [] e p.state p.nothing in record { state = q.0; nothing = q.1 }
 
 abbrev ones : ℕ → List Bool
 ones n = false ∷ replicate n true
@@ -72,12 +58,12 @@ next_one : (M n : ℕ) (bs : List Bool) → n ≤ 5 → ones n ++ (true ∷ []) 
     → Idles M (inside n (ones n)) (true ∷ bs)
 next_one M n bs h e p =
     reads M (inside n (ones n)) (inside (n + 1) (ones (n + 1))) true bs
-    (one-gathered M n (ones n) h (omega (arith, length-replicate n true))
+    (one-read M n (ones n) h (omega (arith, length-replicate n true))
     ∙ ap {B = Receiver × List Finding} (λ (g : List Bool). (inside (n + 1) g, [])) e) p
 
 next-flag : (M : ℕ) → Idles M flagged flag
 next-flag M =
-    reads M flagged (inside 0 (ones 0)) false (true ∷ true ∷ true ∷ true ∷ true ∷ true ∷ false ∷ []) (zero-gathered M)
+    reads M flagged (inside 0 (ones 0)) false (true ∷ true ∷ true ∷ true ∷ true ∷ true ∷ false ∷ []) (zero-read M 0 [] (omega arith) (omega arith))
     (next_one M 0 (true ∷ true ∷ true ∷ true ∷ true ∷ false ∷ []) (omega arith) refl
     (next_one M 1 (true ∷ true ∷ true ∷ true ∷ false ∷ []) (omega arith) refl
     (next_one M 2 (true ∷ true ∷ true ∷ false ∷ []) (omega arith) refl
@@ -142,7 +128,7 @@ last-unit M c bits (b ∷ w) a e = unclosed M c bits b w a e
 units-found : (M : ℕ) (cs : List (List ℕ)) (bits w : List Bool) → AllAllowed M cs → bits ++ w ≡ units_line cs → length w ≤ 7
     → findings M flagged bits ≡ found (closed_out (length w) cs)
 unfolding units_line
-units-found M [] bits w a e h = ap (findings M flagged) (both-nil bits w e).0 ∙ ap found (sym (none-closed (length w)))
+units-found M [] bits w a e h = ap (findings M flagged) (append-eq-nil_iff.0 e).0 ∙ ap found (sym (none-closed (length w)))
 units-found M (c ∷ []) bits w (more a none) e h = last-unit M c bits w a (e ∙ append-nil (unit_line c))
 units-found M (c ∷ d ∷ cs) bits w (more a rest) e h =
     let p = cut (unit_line c) bits w (units_line (d ∷ cs)) e (omega (arith, units-long d cs)) in
@@ -169,6 +155,6 @@ from-flags M k (c ∷ cs) bits w a e h =
 pub stream-found : (M n : ℕ) (cs : List (List ℕ)) (bits w : List Bool) → AllAllowed M cs → bits ++ w ≡ stream_line n cs → length w ≤ 7
     → findings M new_receiver bits ≡ found (closed_out (length w) cs)
 unfolding stream_line flags units_line
-stream-found M zero [] bits w a e h = ap (findings M new_receiver) (both-nil bits w e).0 ∙ ap found (sym (none-closed (length w)))
+stream-found M zero [] bits w a e h = ap (findings M new_receiver) (append-eq-nil_iff.0 e).0 ∙ ap found (sym (none-closed (length w)))
 stream-found M zero (c ∷ cs) bits w a e h = from-flags M 0 (c ∷ cs) bits w a e h
 stream-found M (suc n) cs bits w a e h = from-flags M n cs bits w a e h

@@ -193,10 +193,6 @@ module _ {s : Settings} {line : Line} {area₀ : List ℕ} {octet : ℕ} {w : Ca
   holds-shown : Holds M fed.step.line (standing (shows g.found) fed.step.line.bits) area₁
   holds-shown = subst (λ (x : Option Found). Holds M fed.step.line (standing x fed.step.line.bits) area₁) f.step.found f.step.holds
 
-  nothing-done : fed.step.found ≡ None → here ≡ indications_done s here (map found g.found)
-  nothing-done e =
-      sym (indications-none s here) ∙ ap (λ (fs : List Finding). indications_done s here (map found fs)) (sym (none-found g.found (sym e ∙ f.step.found)))
-
   pub less : 0 < left → fed.left < left
   less h =
       let a : length (bits_of left rest) ≡ left = length-bits_of left rest in
@@ -254,15 +250,12 @@ module _ {s : Settings} {line : Line} {area₀ : List ℕ} {octet : ℕ} {w : Ca
           same = same_out ∙ b.same;
         }
 
-  -- something was found, and dealt with
-  pub turn-some : {x : Found} → fed.step.found ≡ Some x → (q' : Progress) (pool' descriptors' out' area' : List ℕ)
-      → ((fs : List Finding) → Shown fs (Some x) area₁ → holding q' pool' descriptors' out' ≡ indications_done s here (map found fs)) → area' ≡ area_after (Some x) area₁
+  -- what was found, if anything, is dealt with
+  pub taken-turn : (q' : Progress) (pool' descriptors' out' area' : List ℕ)
+      → ((fs : List Finding) → Shown fs fed.step.found area₁ → holding q' pool' descriptors' out' ≡ indications_done s here (map found fs))
+      → area' ≡ area_after fed.step.found area₁
       → Between s line area₀ octet w area' pool' descriptors' out' fed.step.line fed.octet fed.left q'
-  turn-some i q' pool' descriptors' out' area' d ea = turn q' pool' descriptors' out' area' (d g.found (rw i at shown)) (rw i ea)
-
-  -- nothing was
-  pub turn-none : fed.step.found ≡ None → Between s line area₀ octet w area₁ pool descriptors out fed.step.line fed.octet fed.left q
-  turn-none i = turn q pool descriptors out area₁ (nothing-done i) (rw i refl)
+  taken-turn q' pool' descriptors' out' area' d ea = turn q' pool' descriptors' out' area' (d g.found shown) ea
 
 -- ---- the end of the octet
 pub single-octet : (M : ℕ) (st : Receiver) (octet : ℕ) → line_indications M st (octet ∷ []) ≡ octet_indications M st octet

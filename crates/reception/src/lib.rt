@@ -13,7 +13,7 @@ use board::Settings;
 use framing::{Fed, Line, Step, delimit};
 use indications::Progress;
 
-// Unit state, monitor and records written, with the receiver's small state.
+// How far a line is taken: the receiver's small state, and unit state, monitor and records written.
 #[derive(Clone, Copy)]
 pub struct Passed {
     pub line: Line,
@@ -23,53 +23,53 @@ pub struct Passed {
 // One line octet: its bits up to each finding, what that does, and the octet's end.
 pub fn take_octet(
     s: Settings,
-    line: Line,
-    p: Progress,
+    before: Passed,
     octet: u8,
     area: &mut [u8; 279],
     pool: &mut [u8],
     descriptors: &mut [u16],
     out: &mut [u8],
 ) -> Passed
-    requires able { Able s p pool.old descriptors.old out.old }
-    requires well_formed { IsWellFormed s.m line area.old × (record_octets * p.count + record_room ≤ length out.old) }
-    ensures { LineTaken s line area.old (octet ∷ []) (holding p pool.old descriptors.old out.old) result area.new (holding result.progress pool.new descriptors.new out.new) }
+    requires able { Able s before.progress pool.old descriptors.old out.old }
+    requires well_formed { IsWellFormed s.m before.line area.old × (record_octets * before.progress.count + record_room ≤ length out.old) }
+    ensures { LineTaken s before.line area.old (octet ∷ []) (holding before.progress pool.old descriptors.old out.old) result area.new (holding result.progress pool.new descriptors.new out.new) }
 {
-    let mut q = p;
+    let mut p = before.progress;
     let mut fed = Fed {
-        step: Step { line, found: None },
+        step: Step {
+            line: before.line,
+            found: None,
+        },
         octet,
         left: 8,
     };
+    // a turn takes the bits up to a finding, which no `for` knows before
     while fed.left > 0 {
         fed = delimit::feed(s.m, fed.step.line, area, fed.octet, fed.left);
-        if let Some(found) = fed.step.found {
-            q = indications::take_found(s, q, found, area, pool, descriptors, out);
-        }
+        p = indications::take_found(s, p, fed.step.found, area, pool, descriptors, out);
     }
-    let progress = indications::end_octet(s, q, out);
+    let progress = indications::end_octet(s, p, out);
     Passed {
         line: fed.step.line,
         progress,
     }
 }
 
-// What takes line octets, in their order. The lent areas are parameters of their own: as a struct of `&mut` parts, which was tried, each
+// What takes line octets, in their order. The room of the record area is a bound of the function: it ties octets to an area that a host lends. The lent areas are parameters of their own: as a struct of `&mut` parts, which was tried, each
 // function of the layers below needs a clause on the ghost name of each part.
 pub trait Engine {
     fn take_line(
         s: Settings,
-        line: Line,
-        p: Progress,
+        before: Passed,
         octets: &[u8],
         area: &mut [u8; 279],
         pool: &mut [u8],
         descriptors: &mut [u16],
         out: &mut [u8],
     ) -> Passed
-        requires settings_in_range { SettingsInRange s × StateInRange s (holding p pool.old descriptors.old out.old) }
-        requires well_formed { IsWellFormed s.m line area.old × (record_octets * p.count + record_room * length octets.now ≤ length out.old) × (length octets.now ≤ 1024) }
-        ensures { LineTaken s line area.old octets.now (holding p pool.old descriptors.old out.old) result area.new (holding result.progress pool.new descriptors.new out.new) };
+        requires settings_in_range { SettingsInRange s × StateInRange s (holding before.progress pool.old descriptors.old out.old) }
+        requires well_formed { IsWellFormed s.m before.line area.old × (record_octets * before.progress.count + record_room * length octets.now ≤ length out.old) × (length octets.now ≤ 1024) }
+        ensures { LineTaken s before.line area.old octets.now (holding before.progress pool.old descriptors.old out.old) result area.new (holding result.progress pool.new descriptors.new out.new) };
 }
 
 // Each octet by its bits.
@@ -78,26 +78,16 @@ pub struct ByBits;
 impl Engine for ByBits {
     fn take_line(
         s: Settings,
-        line: Line,
-        p: Progress,
+        before: Passed,
         octets: &[u8],
         area: &mut [u8; 279],
         pool: &mut [u8],
         descriptors: &mut [u16],
         out: &mut [u8],
     ) -> Passed {
-        let mut passed = Passed { line, progress: p };
+        let mut passed = before;
         for octet in octets {
-            passed = take_octet(
-                s,
-                passed.line,
-                passed.progress,
-                *octet,
-                area,
-                pool,
-                descriptors,
-                out,
-            );
+            passed = take_octet(s, passed, *octet, area, pool, descriptors, out);
         }
         passed
     }

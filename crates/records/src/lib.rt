@@ -28,7 +28,8 @@ pub enum RecordKind {
 
 // One thing that happens: its record's kind, whether a unit was lost for want of a slot, the unit's length and first five octets, the
 // good count then, whether the monitors take it as an event and as an errored one, and the event bits that it sets by itself.
-// `event` and `errored` are no Option: the definitions of the alarm over lists of calls (promises/specs) read both.
+// `event` and `errored` are no Option<bool>, which is no plainer: Some(true) and Some(false) say less than the two names, and the definitions of
+// the alarm over lists of calls (promises/specs) read each by its name.
 #[derive(Clone, Copy, PartialEq, Eq)]
 pub struct Happening {
     pub kind: RecordKind,
@@ -48,7 +49,7 @@ pub struct Noted {
     pub raised: bool,
 }
 
-// The event bit that an alarm sets.
+// The event bit that an alarm sets. A match, since no alarm sets none; a From would serve this place alone.
 fn alarm_bit(alarm: Option<Alarm>) -> u16
     ensures { result ≡ alarm_bit alarm }
 {

@@ -14,7 +14,8 @@ use Rattle.bits.proofs.Digits.{length-bits_of, value-back, octet_of-lt}
 use Rattle.bits.proofs.Joined.{octet_of-append, past-eight, rest-length, whole-first, after_first, whole-one, after_one}
 use Rattle.sending.specs.declared.Tx.{Tx}
 use Rattle.sending.specs.Packing.{waiting, octets_out, still_waiting}
-use Rattle.sending.specs.InnerPutting.{Puts, TxInRange, Room}
+use Rattle.sending.specs.Sender.{TxInRange}
+use Rattle.sending.specs.InnerPutting.{Puts, Room}
 use Rattle.sending.proofs.Puttings.{length-waiting}
 
 -- the piece moved past what waits, in the code's operations

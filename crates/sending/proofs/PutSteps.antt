@@ -9,7 +9,8 @@ use lib.Seq.{length-sets}
 use Rattle.sending.specs.declared.Tx.{Tx}
 use Rattle.sending.specs.Stuffing.{stuffed, ones_over}
 use Rattle.sending.specs.Packing.{octets_out}
-use Rattle.sending.specs.InnerPutting.{after_bits, area_put, Puts, TxInRange, Room}
+use Rattle.sending.specs.Sender.{TxInRange}
+use Rattle.sending.specs.InnerPutting.{after_bits, area_put, Puts, Room}
 use Rattle.sending.proofs.Stuffs.{stuffed-append, ones-append, over-le}
 use Rattle.sending.proofs.Puttings.{ready-after, place_after, puts-append, puts_none, written-append, written_none}
 
@@ -60,11 +61,9 @@ module _ (out₀ : List ℕ) (t : Tx) (all : List Bool) (out : List ℕ) (s : Tx
   split xs ys h =
       subst (λ (x : List Bool). Rest out₀ t (stuffed t.ones all) (ones_over t.ones all) out s x) (stuffed-append xs ys s.ones) h.rest
 
-  pub going-room : (xs ys : List Bool) → Going out₀ t all out s (xs ++ ys) → TxInRange s × Room s (stuffed s.ones xs) out
-  going-room xs ys h = (
-    h.rest.ready,
-    first-room out₀ t (stuffed t.ones all) (ones_over t.ones all) out s (stuffed s.ones xs) (stuffed (ones_over s.ones xs) ys) (split xs ys h),
-  )
+  pub going-room : (xs ys : List Bool) → Going out₀ t all out s (xs ++ ys) → Room s (stuffed s.ones xs) out
+  going-room xs ys h =
+      first-room out₀ t (stuffed t.ones all) (ones_over t.ones all) out s (stuffed s.ones xs) (stuffed (ones_over s.ones xs) ys) (split xs ys h)
 
   pub goes_on : (xs ys : List Bool) → Going out₀ t all out s (xs ++ ys) → (s' : Tx) (out' : List ℕ)
       → Puts out s (stuffed s.ones xs) (ones_over s.ones xs) s' out' → Going out₀ t all out' s' ys

@@ -1,6 +1,6 @@
 -- Bits put one after the other: where the sender is, and what stands in the area.
 use Prim.Native.Nat.{ℕ, ◌+◌, ◌*◌, ◌≤◌, ◌<◌}
-use mathlib.Core.Path.{◌≡◌, refl, sym, ap, ap₂, ◌∙◌}
+use mathlib.Core.Path.{◌≡◌, refl, sym, ap, ap₂, subst, ◌∙◌}
 use mathlib.Core.Bool.{Bool}
 use mathlib.Core.List.{List, [], ◌++◌, append-nil, append_assoc}
 use native.Mathlib.Omega.{arith}
@@ -12,7 +12,8 @@ use Rattle.bits.proofs.Whole.{length_whole, length-after, whole-few, after-few, 
 use Rattle.bits.proofs.Writing.{sets-append}
 use Rattle.sending.specs.declared.Tx.{Tx}
 use Rattle.sending.specs.Packing.{waiting, octets_out, still_waiting}
-use Rattle.sending.specs.InnerPutting.{after_bits, area_put, TxInRange}
+use Rattle.sending.specs.Sender.{TxInRange}
+use Rattle.sending.specs.InnerPutting.{after_bits, area_put, Puts}
 use Rattle.sending.specs.Promises.{NothingLost}
 
 pub length-waiting : (t : Tx) → length (waiting t) ≡ t.count
@@ -28,6 +29,9 @@ waiting-after t bs ones = all_back (length (still_waiting t bs)) (still_waiting 
 
 pub ready-after : (t : Tx) (bs : List Bool) (ones : ℕ) → ones ≤ 4 → TxInRange (after_bits t bs ones)
 ready-after t bs ones h = record { few = (nothing-lost t bs).1; low = octet_of-lt (still_waiting t bs); short = h }
+
+pub ready-put : (out : List ℕ) (t : Tx) (bs : List Bool) (ones : ℕ) (r : Tx) (out' : List ℕ) → ones ≤ 4 → Puts out t bs ones r out' → TxInRange r
+ready-put out t bs ones r out' h p = subst TxInRange (sym p.tx) (ready-after t bs ones h)
 
 -- eight for each octet out and one for each waiting bit: each bit adds one
 pub place_after : (t : Tx) (bs : List Bool) (ones : ℕ) → (after_bits t bs ones).at * 8 + (after_bits t bs ones).count ≡ t.at * 8 + t.count + length bs

@@ -1,17 +1,18 @@
 -- What is sent is read back.
-use Prim.Native.Nat.{ℕ, zero, suc, ◌+◌, ◌-◌, ◌*◌, ◌≤◌, ◌<◌, min}
+use Prim.Native.Nat.{ℕ, zero, suc, ◌+◌, ◌-◌, ◌*◌, ◌≤◌, ◌<◌}
 use mathlib.Core.Path.{◌≡◌, refl, sym, ap, ap₂, subst, ◌∙◌}
 use mathlib.Core.Bool.{Bool, true, false}
 use mathlib.Core.List.{List, [], ◌∷◌, ◌++◌, append_assoc, append-nil}
 use native.Mathlib.Nat.{add-zero}
 use native.Mathlib.Omega.{arith}
-use borrow.Author.Tests.{le-ltb, ne_eqb, eqb-true}
+use borrow.Author.Tests.{eqb-true}
 use lib.Dec.{eqb}
 use lib.ListN.{length, take, replicate, length-append}
 use lib.Seq.{append_snoc, take-append_seam}
 use Rattle.bits.proofs.Machines.{run-append, outs-append}
 use Rattle.bits.proofs.Digits.{snoc-length}
-use Rattle.framing.specs.Delimitation.{Receiver, Finding, closed, inside, flagged, unit, gather, step_bit, next, finds, receiver_after, findings}
+use Rattle.framing.specs.Delimitation.{Receiver, Finding, closed, inside, flagged, unit, step_bit, next, finds, receiver_after, findings}
+use Rattle.framing.proofs.Steps.{one-read, zero-read}
 use Rattle.sending.specs.Stuffing.{ones_after, zero_after, stuffed, ones_over, on_line}
 use Rattle.sending.specs.Promises.{ReadBack}
 use Rattle.sending.proofs.Stuffs.{after-le, over-le}
@@ -31,20 +32,6 @@ quietly-append M s s' s'' xs ys p q =
     }
 
 -- ---- one bit of a unit
--- inside a unit with room for one bit more
-gathers : (M r ones : ℕ) (b : Bool) (g : List Bool) → length g < 8 * M + 7 → gather M (inside ones g) r b ≡ (inside r (g ++ (b ∷ [])), [])
-gathers M r ones b g k = rw (le-ltb (8 * M + 7) (length g + 1) (omega arith))
-
-one-read : (M ones : ℕ) (g : List Bool) → ones ≤ 5 → length g < 8 * M + 7 → step_bit M (inside ones g) true ≡ (inside (ones + 1) (g ++ (true ∷ [])), [])
-unfolding step_bit
-one-read M ones g h k =
-    let m : min (ones + 1) 7 ≡ ones + 1 = omega arith in
-    rw (ne_eqb ones 6 (omega arith), m) (gathers M (ones + 1) ones true g k)
-
-zero-read : (M ones : ℕ) (g : List Bool) → ones ≤ 4 → length g < 8 * M + 7 → step_bit M (inside ones g) false ≡ (inside 0 (g ++ (false ∷ [])), [])
-unfolding step_bit
-zero-read M ones g h k = rw (ne_eqb ones 5 (omega arith), ne_eqb ones 6 (omega arith)) (gathers M 0 ones false g k)
-
 -- a step that finds nothing
 single : (M : ℕ) (s s' : Receiver) (b : Bool) → step_bit M s b ≡ (s', []) → Quietly M s (b ∷ []) s'
 single M s s' b e = record { state = ap (λ (st : Receiver × List Finding). st.0) e; nothing = ap (λ (st : Receiver × List Finding). st.1 ++ []) e }

@@ -8,19 +8,15 @@ use lib.ListN.{length, get_or}
 use lib.Pow.{pow_mono}
 use Rattle.bits.specs.Octets.{bits_of, octet_of}
 use Rattle.bits.proofs.Digits.{length-bits_of, all_back, octet_of-lt}
-use Rattle.fcs.specs.Table.{table_from}
 use Rattle.fcs.proofs.Tables.{pair-at}
 use Rattle.sending.specs.Stuffing.{stuffed, ones_over, zeros_in}
 use Rattle.sending.specs.Rows.{row_of, stuffing_table}
 use Rattle.sending.specs.Promises.{EachRow}
 use Rattle.sending.proofs.Stuffs.{stuffed-length, over-le, five-bits}
 
-table-rows : stuffing_table ≡ table_from (λ i. row_of (i / 256) (i % 256)) 0 1280
-unfolding stuffing_table
-table-rows = refl
-
 pub each_row : EachRow
-each_row ones x h k = ap (λ (l : List ℕ). get_or l (ones * 256 + x) 0) table-rows ∙ pair-at row_of 1280 ones x k (omega arith)
+unfolding stuffing_table
+each_row ones x h k = pair-at row_of stuffing_table 1280 ones x refl k (omega arith)
 
 three-numbers : (row v z o : ℕ) → row ≡ v + z * 1024 + o * 4096 → v < 1024 → z ≤ 2 → (row % 1024 ≡ v) × (row / 1024 % 4 ≡ z) × (row / 4096 ≡ o)
 three-numbers row v z o e h k = omega arith

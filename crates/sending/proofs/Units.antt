@@ -10,7 +10,8 @@ use Rattle.fcs.specs.Check.{check_octets}
 use Rattle.sending.specs.declared.Tx.{Tx}
 use Rattle.sending.specs.Stuffing.{stuffed, ones_over, flag, unit_bits, unit_line}
 use Rattle.sending.specs.Packing.{octets_out, still_waiting}
-use Rattle.sending.specs.InnerPutting.{Puts, TxInRange, Room}
+use Rattle.sending.specs.Sender.{TxInRange}
+use Rattle.sending.specs.InnerPutting.{Puts, Room}
 use Rattle.sending.proofs.Stuffs.{stuffed-append, over-le}
 use Rattle.sending.proofs.PutSteps.{Rest, begins, first-room, goes, ends, marked}
 
@@ -39,9 +40,8 @@ module _ (out : List ℕ) (t : Tx) (content check : List ℕ) (k : check ≡ che
       subst (λ (bs : List Bool). Left out (marked t 0) bs) (parts content check k)
       (begins out (marked t 0) (unit_line content) 0 (record { few = g.few; low = g.low; short = omega arith }) r)
 
-  pub content-room : TxInRange (marked t 0) × Room (marked t 0) (stuffed 0 (line_bits content)) out
-  content-room =
-      (before.ready, first-room out (marked t 0) (unit_line content) 0 out (marked t 0) (stuffed 0 (line_bits content)) (ending content check) before)
+  pub content-room : Room (marked t 0) (stuffed 0 (line_bits content)) out
+  content-room = first-room out (marked t 0) (unit_line content) 0 out (marked t 0) (stuffed 0 (line_bits content)) (ending content check) before
 
   module _ (a : Tx) (out₁ : List ℕ) (p : Puts out (marked t 0) (stuffed 0 (line_bits content)) (ones_before content) a out₁) where
     -- the content is put
@@ -52,11 +52,8 @@ module _ (out : List ℕ) (t : Tx) (content check : List ℕ) (k : check ≡ che
         (goes out (marked t 0) (unit_line content) 0 out (marked t 0) (stuffed 0 (line_bits content)) (ending content check) (ones_before content)
         (over-le 0 (line_bits content) (omega arith)) before a out₁ p)
 
-    pub check-room : TxInRange a × Room a (stuffed a.ones (line_bits check)) out₁
-    check-room = (
-      after-content.ready,
-      first-room out (marked t 0) (unit_line content) 0 out₁ a (stuffed a.ones (line_bits check)) flag after-content,
-    )
+    pub check-room : Room a (stuffed a.ones (line_bits check)) out₁
+    check-room = first-room out (marked t 0) (unit_line content) 0 out₁ a (stuffed a.ones (line_bits check)) flag after-content
 
     module _ (b : Tx) (out₂ : List ℕ)
         (q : Puts out₁ a (stuffed a.ones (line_bits check)) (ones_over a.ones (line_bits check)) b out₂) where
@@ -66,8 +63,8 @@ module _ (out : List ℕ) (t : Tx) (content check : List ℕ) (k : check ≡ che
           goes out (marked t 0) (unit_line content) 0 out₁ a (stuffed a.ones (line_bits check)) flag
           (ones_over a.ones (line_bits check)) (over-le a.ones (line_bits check) after-content.ready.short) after-content b out₂ q
 
-      pub flag-room : TxInRange b × Room b flag out₂
-      flag-room = (after_check.ready, after_check.room)
+      pub flag-room : Room b flag out₂
+      flag-room = after_check.room
 
       -- the flag is put
       pub unit-put : (e : Tx) (out₃ : List ℕ) → Puts out₂ b flag 0 e out₃ → Puts out t (unit_line content) 0 e out₃

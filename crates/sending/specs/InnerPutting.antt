@@ -1,5 +1,5 @@
 -- What the functions that put bits into an output area need and give.
-use Rattle.std.specs.Prelude.{ℕ, ◌+◌, ◌*◌, ◌^◌, ◌≤◌, ◌<◌, ◌≡◌, Bool, List, length}
+use Rattle.std.specs.Prelude.{ℕ, ◌+◌, ◌*◌, ◌≤◌, ◌≡◌, Bool, List, length}
 use Rattle.std.proofs.lemmas.List.Edits.{sets}
 use Rattle.bits.specs.Octets.{octet_of}
 use Rattle.sending.specs.declared.Tx.{Tx}
@@ -23,12 +23,6 @@ area_put out t bs = sets out t.at (octets_out t bs)
 pub record Puts (out : List ℕ) (t : Tx) (bs : List Bool) (ones : ℕ) (r : Tx) (out' : List ℕ) : Type 0 where
   pub tx : r ≡ after_bits t bs ones
   pub area : out' ≡ area_put out t bs
-
--- at most seven bits wait, the waiting octet is zero past them, and at most four ones in a row stand before the next bit
-pub record TxInRange (t : Tx) : Type 0 where
-  pub few : t.count ≤ 7
-  pub low : t.wait < 2 ^ t.count
-  pub short : t.ones ≤ 4
 
 -- the area has room for these bits
 abbrev pub Room : Tx → List Bool → List ℕ → Type 0

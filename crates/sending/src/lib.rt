@@ -6,7 +6,9 @@ ghost use Rattle.std.specs.Prelude.{◌≡◌, ◌^◌, ◌≤◌, ◌<◌};
 ghost use Rattle.bits.specs.Octets.{bits_of, line_bits};
 ghost use Rattle.sending.specs.Stuffing.{stuffed, ones_over, flag, unit_line};
 ghost use Rattle.sending.specs.Rows.{stuffing_table};
-ghost use Rattle.sending.specs.InnerPutting.{Puts, TxInRange, Room};
+ghost use Rattle.sending.specs.InnerPutting.{Puts, Room};
+
+use std::marker::Model;
 
 mod table;
 
@@ -21,6 +23,19 @@ pub struct Tx {
     pub ones: u8,
 }
 
+// A clause sees the four fields as a plain record. A sender that the code has is in range.
+impl Model for Tx {
+    ghost use Rattle.sending.specs.Sender.{Sender, TxInRange};
+
+    ghost Value = { Sender };
+
+    ghost view = { λ t. record { at = t.at; count = t.count; wait = t.wait; ones = t.ones } };
+
+    ghost inverse = { λ s. record { at = s.at; count = s.count; wait = s.wait; ones = s.ones } };
+
+    ghost invariant = { λ t. TxInRange (record { at = t.at; count = t.count; wait = t.wait; ones = t.ones }) };
+}
+
 // The rows of stuffing, where they stand.
 fn stuffing_table() -> &'static [u16; 1280]
     ensures { result.now ≡ stuffing_table }
@@ -30,8 +45,9 @@ fn stuffing_table() -> &'static [u16; 1280]
 
 // Eight to ten bits, given as a number, behind those that wait: the octets that they fill go out. So many ones in a row stand at their end.
 fn put_piece(out: &mut [u8], t: Tx, piece: u16, many: u8, ones: u8) -> Tx
-    requires tx_in_range { TxInRange t × Room t (bits_of many piece) out.old }
+    requires room { Room t (bits_of many piece) out.old }
     requires piece_bound { (piece < 2 ^ many) × (8 ≤ many) × (many ≤ 10) }
+    requires ones_bound { ones ≤ 4 }
     ensures { Puts out.old t (bits_of many piece) ones result out.new }
 {
     let joined = u32::from(t.wait) + (u32::from(piece) << t.count);
@@ -56,7 +72,7 @@ fn put_piece(out: &mut [u8], t: Tx, piece: u16, many: u8, ones: u8) -> Tx
 
 // One octet of a unit, by its row.
 fn put_octet(out: &mut [u8], t: Tx, octet: u8) -> Tx
-    requires { TxInRange t × Room t (stuffed t.ones (bits_of 8 octet)) out.old }
+    requires { Room t (stuffed t.ones (bits_of 8 octet)) out.old }
     ensures { Puts out.old t (stuffed t.ones (bits_of 8 octet)) (ones_over t.ones (bits_of 8 octet)) result out.new }
 {
     let at = usize::from(t.ones) * 256 + usize::from(octet);
@@ -67,9 +83,11 @@ fn put_octet(out: &mut [u8], t: Tx, octet: u8) -> Tx
 
 // Octets of a unit.
 fn put_octets(out: &mut [u8], mut t: Tx, octets: &[u8]) -> Tx
-    requires { TxInRange t × Room t (stuffed t.ones (line_bits octets.now)) out.old }
+    requires { Room t (stuffed t.ones (line_bits octets.now)) out.old }
     ensures { Puts out.old t (stuffed t.ones (line_bits octets.now)) (ones_over t.ones (line_bits octets.now)) result out.new }
 {
+    // Read for the proof: it knows the sender's range even where no octet comes.
+    let _ = &t.ones;
     for octet in octets {
         t = put_octet(out, t, *octet);
     }
@@ -78,7 +96,7 @@ fn put_octets(out: &mut [u8], mut t: Tx, octets: &[u8]) -> Tx
 
 // A flag, one piece of eight bits, which are not stuffed. The ones in a row begin anew behind it.
 pub fn put_flag(out: &mut [u8], t: Tx) -> Tx
-    requires { TxInRange t × Room t flag out.old }
+    requires { Room t flag out.old }
     ensures { Puts out.old t flag 0 result out.new }
 {
     put_piece(out, t, 0x7e, 8, 0)
@@ -86,7 +104,7 @@ pub fn put_flag(out: &mut [u8], t: Tx) -> Tx
 
 // A whole unit after a flag: content, its check octets, and the closing flag.
 pub fn put_unit(out: &mut [u8], t: Tx, content: &[u8]) -> Tx
-    requires { TxInRange t × Room t (unit_line content.now) out.old }
+    requires { Room t (unit_line content.now) out.old }
     ensures { Puts out.old t (unit_line content.now) 0 result out.new }
 {
     let check = fcs::check_octets(content);

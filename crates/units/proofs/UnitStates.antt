@@ -27,7 +27,7 @@ use Rattle.records.specs.declared.RecordKind.TheVariants as kinds
 use Rattle.records.specs.declared.Happening.{Happening}
 use Rattle.records.specs.Promises.{FirstFive, none, more as five-more}
 use Rattle.units.specs.Indications.{found, octet_end}
-use Rattle.units.specs.Units.{UnitMemory, Effect, unit_memory, effect, unit_state_of, first_five, begins, unit_of, is_free, one_more, counted, short_taken, hand_over, by_fate, by_verdict, ticks, tick_of, good_unit, errored_unit, closed_unit, octet_effect, effect_of, unit_memory_after, happenings, next_unit_memory, happens}
+use Rattle.units.specs.Units.{UnitMemory, Effect, unit_memory, effect, unit_state_of, first_five, begins, unit_of, is_free, one_more, counted, short_taken, hand_over, by_fate, by_verdict, ticks, good_unit, errored_unit, closed_unit, octet_effect, effect_of, unit_memory_after, happenings, next_unit_memory, happens}
 use Rattle.units.specs.InnerFit.{Fits}
 use Rattle.units.specs.Promises.{FitKept, OneFound, OneAtMost, FirstFives, Sums, SumKept, SumAfter, UnitMemoryAppend, HappeningsAppend}
 use Rattle.units.proofs.FirstFive.{five-length}
@@ -48,7 +48,12 @@ each-verdict P NotWhole x y z w = y
 each-verdict P CheckWrong x y z w = z
 each-verdict P Good x y z w = w
 
-each-closed : (P : Effect → Type 0) (s : Settings) (o : UnitMemory) (u : List Bool)
+pub each-tick : (P : List Happening → Type 0) (a b : Bool) {h : Happening} → P (h ∷ []) → P [] → P (ticks a b h)
+each-tick P true true x y = x
+each-tick P true false x y = y
+each-tick P false b x y = y
+
+pub each-closed : (P : Effect → Type 0) (s : Settings) (o : UnitMemory) (u : List Bool)
     → P (effect o ((short_taken o.units (whole_octets u)).happening ∷ [])) → ((status : Status) (kind : RecordKind) → P (errored_unit s o status kind (whole_octets u)))
     → P (good_unit s o (whole_octets u)) → P (closed_unit s o u)
 unfolding closed_unit
@@ -62,7 +67,7 @@ abbrev storing : Settings → UnitMemory → Status → List ℕ → Counting �
 storing s o status os c m n h = effect (hand_over s.k status os o (unit_state_of c m o.units.slots.next n)) (h ∷ [])
 
 module _ (P : Effect → Type 0) (s : Settings) (o : UnitMemory) (os : List ℕ) where
-  each-errored : (status : Status) (kind : RecordKind)
+  pub each-errored : (status : Status) (kind : RecordKind)
       → P (storing s o status os o.units.counting o.units.memory o.units.counts (unit_of kind false os o.units.counts.good true (event_bit events.HandedOver)))
       → P (stayed o (begins s.orn o.units.counting) o.units.memory o.units.counts (unit_of kind true os o.units.counts.good true (event_bit events.Busy)))
       → P (errored_unit s o status kind os)
@@ -75,7 +80,7 @@ module _ (P : Effect → Type 0) (s : Settings) (o : UnitMemory) (os : List ℕ)
   abbrev more : ℕ
   more = one_more o.units.counts.good
 
-  each-good : ((m : Memory) → P (storing s o statuses.Good os off m (counted HandedOver o.units.counts) (unit_of kinds.HandedOver false os more false (event_bit events.HandedOver))))
+  pub each-good : ((m : Memory) → P (storing s o statuses.Good os off m (counted HandedOver o.units.counts) (unit_of kinds.HandedOver false os more false (event_bit events.HandedOver))))
       → ((m : Memory) → P (stayed o off m (counted Dropped o.units.counts) (unit_of kinds.Dropped false os more false 0)))
       → ((m : Memory) → P (stayed o (begins s.orn off) m (counted Lost o.units.counts) (unit_of kinds.Lost true os more false (event_bit events.Busy)))) → P (good_unit s o os)
   unfolding good_unit
@@ -160,30 +165,18 @@ one_found s o (closed u) =
 one_found s o abort = one_of _ _ refl
 one_found s o long = one_of _ _ refl
 
-tick-one : (a b : Bool) (h : Happening) → length (ticks a b h) ≤ 1
-tick-one true true h = omega arith
-tick-one true false h = omega arith
-tick-one false true h = omega arith
-tick-one false false h = omega arith
-
-tick-five : (a b : Bool) (good : ℕ) → FirstFive (ticks a b (tick_of good))
-tick-five true true good = five-more refl none
-tick-five true false good = none
-tick-five false true good = none
-tick-five false false good = none
-
 pub found-one : OneFound
 found-one s o f = (one_found s o f).one
 
 pub one_at_most : OneAtMost
 unfolding effect_of octet_effect
 one_at_most s o (found f) = omega (arith, (one_found s o f).one)
-one_at_most s o octet_end = tick-one (eqb o.units.counting.left 1) o.units.counting.on (tick_of o.units.counts.good)
+one_at_most s o octet_end = each-tick (λ (hs : List Happening). length hs ≤ 1) (eqb o.units.counting.left 1) o.units.counting.on (omega arith) (omega arith)
 
 pub first-fives : FirstFives
 unfolding effect_of octet_effect
 first-fives s o (found f) = (one_found s o f).five
-first-fives s o octet_end = tick-five (eqb o.units.counting.left 1) o.units.counting.on o.units.counts.good
+first-fives s o octet_end = each-tick FirstFive (eqb o.units.counting.left 1) o.units.counting.on (five-more refl none) none
 
 -- ---- the good count is the sum of the three others
 abbrev Summed : Effect → Type 0

@@ -21,7 +21,8 @@ pub struct Taken {
     pub happening: Happening,
 }
 
-// Fixed memory: the gathering area is lent whole, and `count` or `bits` says how much of it is the unit, here and below.
+// Fixed memory: the gathering area is lent whole, and `count` or `bits`, with its bound, says how much of it is the unit, here and below.
+// Settings and unit state come apart: the C link has both among others, and only the unit state is given back.
 // The first five of the first `count` octets of the area, zero filled.
 fn first_five(area: &[u8; 279], count: u16) -> [u8; 5]
     ensures { result ≡ first_five (take count area.now) }
@@ -297,7 +298,8 @@ pub fn break_off(s: Settings, units: UnitState, kind: RecordKind, bits: u16) -> 
     }
 }
 
-// N's counter after an octet: it runs down, and at zero it reloads.
+// N's counter after an octet: it runs down, and at zero it reloads. No plainer as `octet_reception::wound` of one octet: that takes a
+// remainder where this asks whether one is left.
 pub fn count_down(n: u16, left: u16) -> u16
     requires { 1 ≤ left }
     ensures { result ≡ (if nat_eq left 1 then n else left - 1) }

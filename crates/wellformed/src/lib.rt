@@ -100,12 +100,15 @@ fn open_malformed(link: &Link) -> bool
         | transmitter_out(link.transmitter)
 }
 
-// Whether a closed link is the new link. It comes by value, since that tells the proof the lengths of its arrays.
+// Whether a link is the new link, open or not. It comes by value, since that tells the proof the lengths of its arrays.
 fn is_new(link: Link) -> bool
-    requires { link.opened ≡ false }
     ensures { result ≡ is_new link }
 {
-    link == Link::new()
+    let closed = Link {
+        opened: false,
+        ..link
+    };
+    closed == Link::new()
 }
 
 // Whether a link is malformed.

@@ -154,16 +154,10 @@ fn poke(area: &[u8], index: &[u8], value: &[u8]) -> Option<Order> {
     }
 }
 
-/// Most octets of a line that is no comment.
-const LONGEST: usize = 4_096;
-
 /// One line without its newline. `None` is "a line that can't be read".
 pub fn read_line(line: &[u8]) -> Option<Order> {
     if line.is_empty() || line[0] == b'#' {
         return Some(Order::Nothing);
-    }
-    if line.len() > LONGEST {
-        return None;
     }
     // "Words are separated by one space": two spaces, or one at the start or end, make an empty word, which nothing reads.
     let words: Vec<&[u8]> = line.split(|octet| *octet == b' ').collect();
@@ -199,9 +193,9 @@ mod tests {
     #[test]
     fn long_lines() {
         let zeros = |count| ["command ".as_bytes(), &b"0".repeat(count), b"1"].concat();
-        assert_eq!(read_line(&zeros(4_087)), Some(Order::Call(Call::Command(1))));
-        assert_eq!(read_line(&zeros(4_088)), None);
-        assert_eq!(read_line(&b"#".repeat(5_000)), Some(Order::Nothing));
+        assert_eq!(read_line(&zeros(100_000)), Some(Order::Call(Call::Command(1))));
+        assert_eq!(read_line(&b"#".repeat(100_000)), Some(Order::Nothing));
+        assert_eq!(read_line(&b" ".repeat(100_000)), None);
     }
 
     #[test]

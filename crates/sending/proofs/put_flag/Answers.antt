@@ -5,7 +5,7 @@ use Rattle.sending.proofs.put_flag.Goals as goal
 
 pub put_piece-requires : goal.put_piece-requires
 unfolding bits_of
-put_piece-requires c = let p = c.requires in record { tx_in_range = (p.0, p.1); piece_bound = (omega arith, omega arith, omega arith) }
+put_piece-requires c = record { room = c.requires; piece_bound = (omega arith, omega arith, omega arith); ones_bound = omega arith }
 
 pub returns : goal.returns
 unfolding bits_of

@@ -7,6 +7,7 @@ use lib.ListN.{length, drop, get_or, drop_of_length-le}
 use Rattle.bits.specs.Octets.{bits_of, line_bits}
 use Rattle.bits.proofs.Lines.{line-drop}
 use Rattle.sending.specs.declared.Tx.{Tx}
+use Rattle.sending.specs.Sender.{TxInRange}
 use Rattle.sending.proofs.PutSteps.{Going, sets-out, going-room, goes_on, going-ends}
 use Rattle.sending.proofs.put_octets.Goals as goal
 
@@ -16,7 +17,7 @@ first : (out₀ : List ℕ) (t₀ : Tx) (xs out : List ℕ) (t : Tx) (i : ℕ) �
 first out₀ t₀ xs out t i h g = subst (λ (x : List Bool). Going out₀ t₀ (line_bits xs) out t x) (line-drop xs i h) g
 
 pub loop-octet-init : goal.loop-octet-init
-loop-octet-init c = sets-out c.args.out.now c.args.t (line_bits c.args.octets.now) c.requires.0 c.requires.1
+loop-octet-init c = sets-out c.args.out.now c.args.t (line_bits c.args.octets.now) (subst TxInRange c.t.view_is c.t.invariant) c.requires
 
 pub put_octet-t-requires : goal.put_octet-t-requires
 put_octet-t-requires c =

@@ -9,7 +9,7 @@ use Rattle.octet_reception.proofs.ByOctetsEngine.take_line.Goals.{After-end_octe
 
 -- the octets taken together, and their ends
 taken : (c : After-end_octets)
-    → Front c.args.s c.args.line c.args.area.now c.args.octets.now (holding c.args.p c.args.pool.now c.args.descriptors.now c.args.out.now)
+    → Front c.args.s c.args.before.line c.args.area.now c.args.octets.now (holding c.args.before.progress c.args.pool.now c.args.descriptors.now c.args.out.now)
     (take (length c.loop-rest.rest.now - c.plain_octets-scan.result.taken) (drop c.plain_octets-scan.result.taken c.loop-rest.rest.now))
     (record { line = c.plain_octets-scan.result.line; progress = c.end_octets.result }) c.plain_octets-scan.new.area
     (holding c.end_octets.result c.loop-rest.pool c.loop-rest.descriptors c.end_octets.new.out)

@@ -1,0 +1,2 @@
+-- The laws of calls on the fronts of areas.
+pub mod Fronts

@@ -1,0 +1,3 @@
+-- The calls of the console's board.
+pub mod Lent
+pub mod Calls

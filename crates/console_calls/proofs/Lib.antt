@@ -1,0 +1,2 @@
+-- The laws of the console's calls and lines.
+pub mod Answering

@@ -1,0 +1,6 @@
+-- `console_calls::answers::send` meets its contract: what the call gives, and its line.
+use Rattle.console_calls.proofs.Answering.{sending_is}
+use Rattle.console_calls.proofs.answers.send.Goals as goal
+
+pub returns : goal.returns
+returns g c pool descriptors records = let put = rw c.front.ensures at c.in_ok-put_made.ensures in sending_is _ _ _ _ _ _ _ _ _ _ _ c.counted-number.ensures.0 c.counted-number.ensures.1 _ c.send-done.ensures put

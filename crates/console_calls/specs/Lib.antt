@@ -1,0 +1,4 @@
+-- What lines ask of the console's board.
+pub mod Console
+pub mod Answers
+pub mod Lines

@@ -1,0 +1,2 @@
+-- Lemmas on what is printed line by line.
+pub mod OneByOne

@@ -1,0 +1,7 @@
+-- The proofs of what is promised.
+pub mod Words
+pub mod Printed
+pub mod Asked
+pub mod Booked
+pub mod PlainWords
+pub mod PlainLines

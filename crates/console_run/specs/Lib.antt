@@ -1,0 +1,2 @@
+-- The program `console`.
+pub mod Session

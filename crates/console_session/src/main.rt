@@ -1,0 +1,7 @@
+// The program console on the session that README shows.
+
+#![tactic(auto)]
+
+fn main(rt: HostRuntime) {
+    console_run::answer_input(&rt);
+}

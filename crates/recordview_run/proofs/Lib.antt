@@ -1,0 +1,4 @@
+-- Lemmas of the program's proofs.
+pub mod Filling
+pub mod Records
+pub mod Running

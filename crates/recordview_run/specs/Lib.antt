@@ -1,0 +1,2 @@
+-- The program `recordview`.
+pub mod View

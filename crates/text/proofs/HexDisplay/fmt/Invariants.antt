@@ -1,0 +1,10 @@
+-- `text::Hex` prints its octets: so far the digits of those before this one.
+use Rattle.std.proofs.Common.{take}
+use Rattle.std.specs.Fmt.{HasWritten, IsPlainFormatter}
+use Rattle.std.specs.List.{flat_map}
+use Rattle.text.specs.Hex.{two_digits}
+use Rattle.text.proofs.HexDisplay.fmt.Given as goal
+
+abbrev pub invariant-loop-octet : goal.invariant-loop-octet
+invariant-loop-octet g l =
+    IsPlainFormatter l.initial.f → HasWritten g.W.Write.write_str_gives l.initial.f (flat_map two_digits (take l.octet-index l.self.0.now)) l.f

@@ -1,0 +1,2 @@
+-- Lemmas on octets in hex.
+pub mod Digits

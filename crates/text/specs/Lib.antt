@@ -1,0 +1,2 @@
+-- Octets as text.
+pub mod Hex

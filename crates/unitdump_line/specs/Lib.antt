@@ -1,0 +1,2 @@
+-- What the program `unitdump` takes from the line.
+pub mod Units

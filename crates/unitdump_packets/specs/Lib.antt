@@ -1,0 +1,3 @@
+-- The octets of a pcap file.
+pub mod Packets
+pub mod Promises

@@ -1,0 +1,2 @@
+-- What one link sends, as unitdump writes it.
+pub mod Promises

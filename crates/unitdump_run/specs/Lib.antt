@@ -1,0 +1,3 @@
+-- The program `unitdump`.
+pub mod File
+pub mod Promises
