@@ -3,6 +3,8 @@
 #![tactic(auto)]
 
 ghost use Rattle.std.specs.Prelude.{◌≡◌, [], ◌∷◌};
+ghost use Rattle.link.specs.Refusals.{read_number};
+ghost use Rattle.link.specs.Calls.{read_part};
 ghost use Rattle.calls.specs.Call.{reads_number, hand_back};
 ghost use Rattle.host_calls.specs.Answers.{host_answer, offset_of, host_part};
 
@@ -34,6 +36,19 @@ pub extern "C" fn pj_read_number_value(
     calls::read_number(Link::from(link), pool, descriptors, slot)
 }
 
+// The number of a read that gives this part: one that has octets is of a read that is not refused, and its faults are not looked for again.
+#[tactic(auto, unfolding(link::specs::Calls::read_part))]
+fn number_of(link: Link, pool: &[u8], descriptors: &[u16], slot: u16, part: &[u8]) -> u8
+    requires { part.now ≡ read_part link pool.now descriptors.now slot }
+    ensures { result ≡ read_number link pool.now descriptors.now slot }
+{
+    if part.is_empty() {
+        calls::read_number(link, pool, descriptors, slot)
+    } else {
+        0
+    }
+}
+
 // The unit in a slot, as the place and the length of a part of the pool; both 0 where the call is refused.
 #[unsafe(no_mangle)]
 pub extern "C" fn pj_read_value(
@@ -45,8 +60,8 @@ pub extern "C" fn pj_read_value(
     ensures { result ≡ host_part link pool.now descriptors.now slot }
 {
     let l = Link::from(link);
-    let number = calls::read_number(l, pool, descriptors, slot);
     let part = calls::read(l, pool, descriptors, slot);
+    let number = number_of(l, pool, descriptors, slot, part);
     HostPart {
         offset: offset_of(number, slot),
         length: part.len(),

@@ -22,7 +22,7 @@ fn check_half(register: u16, half: u8) -> u16
     ensures { result ≡ check_bits register (bits_of 4 half) }
 {
     let at = (register ^ u16::from(half)) % 16;
-    (register / 16) ^ CONSTANTS[usize::from(at)]
+    (register / 16) ^ sixteen_constants()[usize::from(at)]
 }
 
 // The two halves of an octet, the low one first.

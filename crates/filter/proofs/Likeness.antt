@@ -76,6 +76,11 @@ module _ (mask : List ℕ) where
   pub alike-of-parts : (u v : List ℕ) → length u ≡ length v → masked mask u ≡ masked mask v → alike mask u v ≡ true
   alike-of-parts u v l o = rw (eq-eqb (length u) (length v) l) ((same-exactly (masked mask u) (masked mask v)).1 o)
 
+  pub alike-symmetric : (u v : List ℕ) → alike mask u v ≡ true → alike mask v u ≡ true
+  alike-symmetric u v h =
+      let p = alike-parts u v h in
+      alike-of-parts v u (sym p.0) (sym p.1)
+
   pub alike-transitive : (u v w : List ℕ) → alike mask u v ≡ true → alike mask v w ≡ true → alike mask u w ≡ true
   alike-transitive u v w h k =
       let p = alike-parts u v h in

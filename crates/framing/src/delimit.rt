@@ -32,74 +32,72 @@ fn hunting(run: u8) -> Line
 }
 
 // Inside a unit, the bit is gathered, or the unit is long. The line's run is that after the bit.
-fn gather_bit(m: u16, mut line: Line, area: &mut [u8; 279], bit: bool) -> Step
+fn gather_bit(m: u16, line: &mut Line, area: &mut [u8; 279], bit: bool) -> Option<Found>
     requires m_bound { m ≤ 278 }
-    requires well_formed { IsWellFormed m line area.old }
-    ensures { Stepped m (gather m (decode line area.old) line.run bit) result area.new }
+    requires well_formed { IsWellFormed m line.old area.old }
+    ensures { Stepped m (gather m (decode line.old area.old) line.old.run bit) (record { line = line.new; found = result }) area.new }
 {
     if line.hunting {
-        return Step { line, found: None };
+        return None;
     }
     if line.bits >= m * 8 + 7 {
         area::clear(area, line.bits);
-        return Step {
-            line: hunting(line.run),
-            found: Some(Found::Long),
-        };
+        *line = hunting(line.run);
+        return Some(Found::Long);
     }
     put_bit(area, line.bits, bit);
     line.bits += 1;
-    Step { line, found: None }
+    None
 }
 
 // A flag closes the unit, if one is open, and opens the next. A receiver that hunts has gathered no bits.
-fn end_flag(m: u16, line: Line, area: &mut [u8; 279]) -> Step
+fn end_flag(m: u16, line: &mut Line, area: &mut [u8; 279]) -> Option<Found>
     requires m_bound { m ≤ 278 }
-    requires well_formed { IsWellFormed m line area.old }
-    ensures { Stepped m (flag (decode line area.old)) result area.new }
+    requires well_formed { IsWellFormed m line.old area.old }
+    ensures { Stepped m (flag (decode line.old area.old)) (record { line = line.new; found = result }) area.new }
 {
     let bits = line.bits;
-    let line = Line {
+    *line = Line {
         run: 0,
         hunting: false,
         bits: 0,
     };
     if bits <= 7 {
         // `area::clear` in one store: its call of the library for one octet made a line of flags a seventh slower
-        area[0] = 0;
-        return Step { line, found: None };
+        if bits > 0 {
+            area[0] = 0;
+        }
+        return None;
     }
-    Step {
-        line,
-        found: Some(Found::Closed(bits - 7)),
-    }
+    Some(Found::Closed(bits - 7))
 }
 
-// One bit of the line.
+// One bit of the line. It changes the line where it lies: given back in a `Step`, it was taken apart and put together again for each bit.
 #[tactic(auto, unfolding(crate::specs::Delimitation::step_bit))]
-fn step_bit(m: u16, line: Line, area: &mut [u8; 279], bit: bool) -> Step
+fn step_bit(m: u16, line: &mut Line, area: &mut [u8; 279], bit: bool) -> Option<Found>
     requires m_bound { m ≤ 278 }
-    requires well_formed { IsWellFormed m line area.old }
-    ensures { Stepped m (step_bit m (decode line area.old) bit) result area.new }
+    requires well_formed { IsWellFormed m line.old area.old }
+    ensures { Stepped m (step_bit m (decode line.old area.old) bit) (record { line = line.new; found = result }) area.new }
 {
     match (bit, line.run) {
         (true, 6) => {
             area::clear(area, line.bits);
-            Step {
-                line: hunting(7),
-                found: Some(Found::Abort),
-            }
+            *line = hunting(7);
+            Some(Found::Abort)
         }
         (true, run) => {
-            let run = (run + 1).min(7);
-            gather_bit(m, Line { run, ..line }, area, true)
+            line.run = (run + 1).min(7);
+            gather_bit(m, line, area, true)
         }
         (false, 5) => {
-            let line = Line { run: 0, ..line };
-            Step { line, found: None }
+            line.run = 0;
+            None
         }
         (false, 6) => end_flag(m, line, area),
-        (false, _) => gather_bit(m, Line { run: 0, ..line }, area, false),
+        (false, _) => {
+            line.run = 0;
+            gather_bit(m, line, area, false)
+        }
     }
 }
 
@@ -110,12 +108,15 @@ pub fn feed(m: u16, mut line: Line, area: &mut [u8; 279], mut octet: u8, bits: u
     ensures { FedTo m (reading m (decode line area.old) (bits_of bits octet)) result area.new }
 {
     for left in (0..bits).rev() {
-        let step = step_bit(m, line, area, octet % 2 == 1);
+        let found = step_bit(m, &mut line, area, octet % 2 == 1);
         octet /= 2;
-        if step.found.is_some() {
-            return Fed { step, octet, left };
+        if found.is_some() {
+            return Fed {
+                step: Step { line, found },
+                octet,
+                left,
+            };
         }
-        line = step.line;
     }
     Fed {
         step: Step { line, found: None },

@@ -23,7 +23,7 @@ loop-left-preserved c =
     let goal = reading a.m (decode a.line a.area.now) (bits_of a.bits a.octet) in
     let w = quiet-round a.m goal p.line p.area (odd p.octet) (bits_of (p.left - 1) (p.octet / 2))
     (first a.m (decode p.line p.area) p.left p.octet goal c.loop-left-test.true p.invariant.1)
-    c.step_bit-step.result c.step_bit-step.new.area c.step_bit-step.ensures
+    (record { line = c.step_bit-found.new.line; found = c.step_bit-found.result }) c.step_bit-found.new.area c.step_bit-found.ensures
     (sym c.is_some.ensures ∙ c.if-is_some.false) in
     (w.1, w.0)
 
@@ -34,7 +34,7 @@ returns-then-is_some c =
     let goal = reading a.m (decode a.line a.area.now) (bits_of a.bits a.octet) in
     loud-round a.m goal p.line p.area (odd p.octet) (bits_of (p.left - 1) (p.octet / 2))
     (first a.m (decode p.line p.area) p.left p.octet goal c.loop-left-test.true p.invariant.1)
-    c.step_bit-step.result c.step_bit-step.new.area c.step_bit-step.ensures
+    (record { line = c.step_bit-found.new.line; found = c.step_bit-found.result }) c.step_bit-found.new.area c.step_bit-found.ensures
     (sym c.is_some.ensures ∙ c.if-is_some.true) (p.octet / 2) (p.left - 1) refl (omega arith)
 
 pub returns : goal.returns

@@ -5,10 +5,10 @@ use Rattle.framing.proofs.delimit.gather_bit.Goals as goal
 pub returns-then-line-m : goal.returns-then-line-m
 returns-then-line-m c =
     rw c.hunting.ensures
-    (long-way c.args.m c.args.line c.args.bit c.args.area.now c.clear.new.area c.requires.m_bound c.requires.well_formed
+    (long-way c.args.m c.args.line.now c.args.bit c.args.area.now c.clear.new.area c.requires.m_bound c.requires.well_formed
     c.if-line.false c.if-line-m.true c.clear.ensures)
 
 pub returns : goal.returns
 returns c =
-    gathered-way c.args.m c.args.line c.args.bit c.args.area.now c.put_bit.new.area c.requires.m_bound c.requires.well_formed
+    gathered-way c.args.m c.args.line.now c.args.bit c.args.area.now c.put_bit.new.area c.requires.m_bound c.requires.well_formed
     c.if-line.false c.if-line-m.false c.put_bit.ensures
