@@ -36,9 +36,10 @@ pub extern "C" fn pj_read_number_value(
     calls::read_number(Link::from(link), pool, descriptors, slot)
 }
 
-// The number of a read that gives this part: one that has octets is of a read that is not refused, and its faults are not looked for again.
+// The number of a read that gives this part: one that has octets is of a read that is not refused, and its faults are not looked for again. A function
+// of its own, since the proof loses what the part says where the two ways meet.
 #[tactic(auto, unfolding(link::specs::Calls::read_part))]
-fn number_of(link: Link, pool: &[u8], descriptors: &[u16], slot: u16, part: &[u8]) -> u8
+fn number_after_read(link: Link, pool: &[u8], descriptors: &[u16], slot: u16, part: &[u8]) -> u8
     requires { part.now ≡ read_part link pool.now descriptors.now slot }
     ensures { result ≡ read_number link pool.now descriptors.now slot }
 {
@@ -61,7 +62,7 @@ pub extern "C" fn pj_read_value(
 {
     let l = Link::from(link);
     let part = calls::read(l, pool, descriptors, slot);
-    let number = number_of(l, pool, descriptors, slot, part);
+    let number = number_after_read(l, pool, descriptors, slot, part);
     HostPart {
         offset: offset_of(number, slot),
         length: part.len(),
